@@ -1,0 +1,2 @@
+pub mod SameSlots
+pub mod Asks

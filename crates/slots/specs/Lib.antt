@@ -1,0 +1,4 @@
+pub mod Bounds
+pub mod Slots
+pub mod Replies
+pub mod Trials
