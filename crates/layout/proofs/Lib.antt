@@ -5,4 +5,5 @@ pub mod OneBit
 pub mod Sameness
 pub mod NeedLaws
 pub mod WordLaws
+pub mod WordNeeds
 pub mod Holding

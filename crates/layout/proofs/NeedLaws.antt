@@ -126,3 +126,13 @@ pub counts-none : (n : ℕ) → counts (λ j. false) n ≡ 0
 unfolding counts
 counts-none zero = refl
 counts-none (suc n) = rw (counts-none n) refl
+
+-- what tells the values of f apart needs the same bits
+pub needed-into : {X Y : Type 0} (ss : List Span) (f : List ℕ → X) (g : X → Y) → ((x y : X) → g x ≡ g y → x ≡ y) → Needed ss f → Needed ss (λ b. g (f b))
+needed-into ss f g inj n =
+    record
+    { enough = λ b c h. ap g (n .enough b c h)
+    ; none-idle = λ k h. sway k (n .none-idle k h) }
+  where
+    sway : (k : ℕ) → Sways f k → Sways (λ b. g (f b)) k
+    sway k (b, c, a, d) = (b, c, a, λ e. d (inj (f b) (f c) e))

@@ -18,7 +18,7 @@ use Rattle.layout.specs.Bits.{bitSet, zerosFrom, zerosReply}
 use Rattle.layout.specs.Spans.{span, reachOf, inBody}
 use Rattle.layout.specs.Marks.{markOf, markBit, markReply, markNeedOf, nullsReply}
 use Rattle.layout.specs.Needs.{each, counts}
-use Rattle.layout.proofs.NeedLaws.{one-span, marks-reach, zeros-nulls, each-free, counts-none}
+use Rattle.layout.proofs.NeedLaws.{one-span, marks-reach, zeros-nulls, each-free, counts-all, counts-none}
 use Rattle.layout.proofs.Counting.{zeros-none}
 use Rattle.slots.specs.Replies.{askReply, countReply, orBeyond, presentReply}
 
@@ -51,3 +51,10 @@ asked-count (Some m) len b =
         let f : eqb (suc n) 0 ≡ false = grind arith in
         let e : 8 * m .place + m .first + 0 ≡ 8 * m .place + m .first = omega arith in
         rw (f, e) (both (leb (8 * m .place + m .first + suc n) (8 * length b)) (zerosFrom b (8 * m .place + m .first) (suc n)))
+
+-- where every slot counts, or none, and no bit is needed
+pub count-all : (n : ℕ) (b : List ℕ) → countReply n (λ j. []) (λ j. true) b ≡ Ok n
+count-all n b = rw (each-free n, counts-all n, le-leb 0 (8 * length b) (omega arith)) refl
+
+pub count-none : (n : ℕ) (b : List ℕ) → countReply n (λ j. []) (λ j. false) b ≡ Ok 0
+count-none n b = rw (each-free n, counts-none n, le-leb 0 (8 * length b) (omega arith)) refl

@@ -1,2 +1,3 @@
 pub mod SameSlots
 pub mod Asks
+pub mod Leaves

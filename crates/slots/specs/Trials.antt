@@ -72,3 +72,8 @@ newSlots len nulls =
 abbrev pub leafReply : Accounts → List ℕ → ℕ → ℕ → Option NullBuffer → Result Slots Stop
 leafReply g b own len nulls =
     andThen (bytesReply g b own nulls) (andThen (lengthReply len) (andThen (marksReply nulls len) (Ok (newSlots len nulls))))
+
+-- a handle made of the slots
+abbrev pub withSlots : {X : Type 0} → (Slots → X) → Result Slots Stop → Result X Stop
+withSlots f (Ok s) = Ok (f s)
+withSlots f (Err e) = Err e

@@ -1,0 +1,3 @@
+pub mod array;
+pub mod offset_size;
+pub mod cuts;

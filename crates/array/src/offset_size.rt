@@ -1,0 +1,83 @@
+ghost use mathlib.Core.Path.{_≡_};
+ghost use mathlib.Core.Logic.{_⊎_};
+ghost use Prim.Native.Nat.{ℕ, _+_, _/_};
+ghost use Rattle.layout.specs.Words.{signedReply};
+ghost use Rattle.array.specs.Offsets.{largestOf};
+use layout::words::get_i32;
+use layout::words::get_i64;
+
+// A kind of offsets: signed numbers of four or eight bytes.
+pub trait OffsetSizeTrait {
+    ghost width: { ℕ };
+
+    law known: { (width ≡ 4) ⊎ (width ≡ 8) };
+
+    // How many bytes an offset has.
+    fn width() -> u64
+        ensures { λ r. ⌜ r ≡ width ⌝ };
+
+    fn max_offset() -> u64
+        ensures { λ r. ⌜ r ≡ largestOf width ⌝ };
+
+    // The form digit of an offset list, and of a view.
+    fn list_digit() -> u8
+        ensures { λ r. ⌜ r ≡ 8 + width / 8 ⌝ };
+
+    fn view_digit() -> u8
+        ensures { λ r. ⌜ r ≡ 10 + width / 8 ⌝ };
+
+    // The offset at a place, or nothing where it does not lie in the body.
+    fn read(body: &[u8], at: u64) -> Option<i64>
+        ensures { λ r. ⌜ r ≡ signedReply (now (body .entry)) at width ⌝ };
+}
+
+pub impl OffsetSizeTrait for i32 as I32OffsetSize {
+    ghost width = { 4 };
+
+    fn width() -> u64 {
+        4
+    }
+
+    fn max_offset() -> u64 {
+        2147483647
+    }
+
+    fn list_digit() -> u8 {
+        8
+    }
+
+    fn view_digit() -> u8 {
+        10
+    }
+
+    fn read(body: &[u8], at: u64) -> Option<i64> {
+        match get_i32(body, at) {
+            Some(v) => Some(i64::from(v)),
+            None => None,
+        }
+    }
+}
+
+pub impl OffsetSizeTrait for i64 as I64OffsetSize {
+    ghost width = { 8 };
+
+    fn width() -> u64 {
+        8
+    }
+
+    fn max_offset() -> u64 {
+        9223372036854775807
+    }
+
+    fn list_digit() -> u8 {
+        9
+    }
+
+    fn view_digit() -> u8 {
+        11
+    }
+
+    fn read(body: &[u8], at: u64) -> Option<i64> {
+        get_i64(body, at)
+    }
+}

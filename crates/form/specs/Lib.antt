@@ -1,0 +1,4 @@
+pub mod Forms
+pub mod Shapes
+pub mod Laws
+pub mod Examples
