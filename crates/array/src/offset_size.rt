@@ -39,15 +39,15 @@ pub impl OffsetSizeTrait for i32 as I32OffsetSize {
     }
 
     fn max_offset() -> u64 {
-        2147483647
+        i32::MAX as u64
     }
 
     fn list_digit() -> u8 {
-        8
+        0x8
     }
 
     fn view_digit() -> u8 {
-        10
+        0xa
     }
 
     fn read(body: &[u8], at: u64) -> Option<i64> {
@@ -66,15 +66,15 @@ pub impl OffsetSizeTrait for i64 as I64OffsetSize {
     }
 
     fn max_offset() -> u64 {
-        9223372036854775807
+        i64::MAX as u64
     }
 
     fn list_digit() -> u8 {
-        9
+        0x9
     }
 
     fn view_digit() -> u8 {
-        11
+        0xb
     }
 
     fn read(body: &[u8], at: u64) -> Option<i64> {

@@ -83,7 +83,7 @@ pub impl Array for BooleanArray as BooleanArrayArray {
     }
 
     fn logical_null_count(&self, body: &[u8]) -> Result<u64, Stop> {
-        self.slots.null_count(body)
+        self.null_count(body)
     }
 
     fn slice(&self, start: u64, n: u64) -> Result<Self, Stop> {

@@ -6,4 +6,3 @@ pub mod Sameness
 pub mod NeedLaws
 pub mod WordLaws
 pub mod WordNeeds
-pub mod Holding

@@ -62,7 +62,3 @@ AlikeReadAlike =
 abbrev pub ZerosAreNulls : Type 0
 ZerosAreNulls =
     (m : Marks) (b : List ℕ) (n : ℕ) → zerosFrom b (8 * m .place + m .first) n ≡ counts (λ k. not (markOf (Some m) b k)) n
-
-abbrev pub LayoutLaws : Type 0
-LayoutLaws =
-    ValidWhereBitSet × WordIsSum × TwosComplement × SignedIsRead × WrittenIsRead × OthersStay × AlikeReadAlike × ZerosAreNulls

@@ -4,6 +4,7 @@ ghost use lib.ListN.{length};
 ghost use lib.Dec.{leb, ltb};
 ghost use Rattle.layout.specs.Bits.{bitSet, bitReply, zerosFrom, zerosReply};
 ghost use Rattle.layout.specs.Marks.{markReply, nullsReply, markSpans};
+ghost use Rattle.layout.specs.Laws.{ValidWhereBitSet, ZerosAreNulls};
 ghost use Rattle.layout.specs.Spans.{inBody};
 use crate::marks::Marks;
 
@@ -102,7 +103,8 @@ impl Marks {
 
 // Whether slot k is present, or nothing where its mark lies beyond the body.
 pub fn mark(marks: Option<Marks>, body: &[u8], k: u64) -> Option<bool>
-    ensures { λ r. ⌜ r ≡ markReply marks (now (body .entry)) k ⌝ }
+    ensures answers { λ r. ⌜ r ≡ markReply marks (now (body .entry)) k ⌝ }
+    ensures valid { λ _. ⌜ ValidWhereBitSet ⌝ }
 {
     let Some(m) = marks else {
         return Some(true);
@@ -112,7 +114,8 @@ pub fn mark(marks: Option<Marks>, body: &[u8], k: u64) -> Option<bool>
 
 // How many of the first n slots have a null mark, or nothing where one of the marks lies beyond the body.
 pub fn count_nulls(marks: Option<Marks>, body: &[u8], n: u64) -> Option<u64>
-    ensures { λ r. ⌜ r ≡ nullsReply marks (now (body .entry)) n ⌝ }
+    ensures answers { λ r. ⌜ r ≡ nullsReply marks (now (body .entry)) n ⌝ }
+    ensures plain { λ _. ⌜ ZerosAreNulls ⌝ }
 {
     let Some(m) = marks else {
         return Some(0);

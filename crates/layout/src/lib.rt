@@ -1,12 +1,4 @@
-ghost use Rattle.layout.specs.Laws.{LayoutLaws};
-
+// Bits, marks and words on a body of bytes, by the Arrow columnar format.
 pub mod marks;
 pub mod bits;
 pub mod words;
-
-// What the definitions of marks and words owe to the Arrow columnar format.
-pub fn layout_holds() -> u8
-    ensures { λ _. ⌜ LayoutLaws ⌝ }
-{
-    0
-}

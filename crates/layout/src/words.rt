@@ -1,11 +1,14 @@
 ghost use mathlib.Core.Path.{_≡_};
 ghost use Prim.Native.Nat.{ℕ, _+_, _*_, _<_, _≤_};
 ghost use lib.ListN.{length};
+ghost use Rattle.layout.specs.Laws.{WordIsSum, AlikeReadAlike, TwosComplement, SignedIsRead, WrittenIsRead, OthersStay};
 ghost use Rattle.layout.specs.Words.{wordAt, signedOf, putBytes, wordFits, wordReply, signedReply, wordOf, written};
 
 // The number of two bytes at a place, lowest byte first, or nothing where it does not lie in the body.
 pub fn get_u16(body: &[u8], at: u64) -> Option<u16>
-    ensures { λ r. ⌜ r ≡ wordReply (now (body .entry)) at 2 ⌝ }
+    ensures answers { λ r. ⌜ r ≡ wordReply (now (body .entry)) at 2 ⌝ }
+    ensures sum { λ _. ⌜ WordIsSum ⌝ }
+    ensures alike { λ _. ⌜ AlikeReadAlike ⌝ }
 {
     if !word_fits(body, at, 2) {
         return None;
@@ -22,7 +25,8 @@ fn u16_in(body: &[u8], p: usize) -> u16
 
 // The signed number of four bytes at a place.
 pub fn get_i32(body: &[u8], at: u64) -> Option<i32>
-    ensures { λ r. ⌜ r ≡ signedReply (now (body .entry)) at 4 ⌝ }
+    ensures answers { λ r. ⌜ r ≡ signedReply (now (body .entry)) at 4 ⌝ }
+    ensures complement { λ _. ⌜ TwosComplement ⌝ }
 {
     if !word_fits(body, at, 4) {
         return None;
@@ -63,38 +67,41 @@ pub fn word_fits(body: &[u8], at: u64, width: u64) -> bool
 }
 
 // Writes two bytes at a place, lowest first; false, and nothing written, where they do not lie in the body.
-pub fn put_u16(body: &mut [u8], at: u64, v: u16) -> bool
+pub fn put_u16(body: &mut [u8], at: u64, short: u16) -> bool
     ensures fits { λ r. ⌜ r ≡ wordFits (now (body .entry)) at 2 ⌝ }
-    ensures leaves { λ _. ⌜ now (body .exit) ≡ written 2 (now (body .entry)) at v ⌝ }
+    ensures leaves { λ _. ⌜ now (body .exit) ≡ written 2 (now (body .entry)) at short ⌝ }
+    ensures read_back { λ _. ⌜ WrittenIsRead ⌝ }
+    ensures others { λ _. ⌜ OthersStay ⌝ }
 {
     if !word_fits(body, at, 2) {
         return false;
     }
-    put_bytes(body, at as usize, v.to_le_bytes());
+    put_bytes(body, at as usize, short.to_le_bytes());
     true
 }
 
 // Writes four bytes at a place.
-pub fn put_i32(body: &mut [u8], at: u64, v: i32) -> bool
+pub fn put_i32(body: &mut [u8], at: u64, word: i32) -> bool
     ensures fits { λ r. ⌜ r ≡ wordFits (now (body .entry)) at 4 ⌝ }
-    ensures leaves { λ _. ⌜ now (body .exit) ≡ written 4 (now (body .entry)) at (wordOf 4 v) ⌝ }
+    ensures leaves { λ _. ⌜ now (body .exit) ≡ written 4 (now (body .entry)) at (wordOf 4 word) ⌝ }
+    ensures signed { λ _. ⌜ SignedIsRead ⌝ }
 {
     if !word_fits(body, at, 4) {
         return false;
     }
-    put_bytes(body, at as usize, v.to_le_bytes());
+    put_bytes(body, at as usize, word.to_le_bytes());
     true
 }
 
 // Writes eight bytes at a place.
-pub fn put_i64(body: &mut [u8], at: u64, v: i64) -> bool
+pub fn put_i64(body: &mut [u8], at: u64, long: i64) -> bool
     ensures fits { λ r. ⌜ r ≡ wordFits (now (body .entry)) at 8 ⌝ }
-    ensures leaves { λ _. ⌜ now (body .exit) ≡ written 8 (now (body .entry)) at (wordOf 8 v) ⌝ }
+    ensures leaves { λ _. ⌜ now (body .exit) ≡ written 8 (now (body .entry)) at (wordOf 8 long) ⌝ }
 {
     if !word_fits(body, at, 8) {
         return false;
     }
-    put_bytes(body, at as usize, v.to_le_bytes());
+    put_bytes(body, at as usize, long.to_le_bytes());
     true
 }
 

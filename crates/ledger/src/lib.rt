@@ -5,6 +5,7 @@ ghost use Rattle.ledger.specs.Ledger.{accountsOf, Opening, reservation, reserv
 
 pub mod stop;
 pub mod ledger;
+pub mod accounts;
 
 use ledger::Ledger;
 use stop::Reason;
@@ -20,20 +21,6 @@ impl Ledger {
             return Err(Stop::new(Reason::BeyondBytes));
         }
         Ok(Ledger { length, loaded, end: loaded })
-    }
-
-    // The body's length.
-    pub fn length(&self) -> u64
-        ensures { λ r. ⌜ r ≡ accountsOf (now (self .entry)) .length ⌝ }
-    {
-        self.length
-    }
-
-    // How many bytes are loaded.
-    pub fn loaded(&self) -> u64
-        ensures { λ r. ⌜ r ≡ accountsOf (now (self .entry)) .loaded ⌝ }
-    {
-        self.loaded
     }
 
     // A place for so many bytes.

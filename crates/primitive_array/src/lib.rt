@@ -85,7 +85,7 @@ pub impl<T: ArrowPrimitiveType> Array for PrimitiveArray<T> as PrimitiveArrayArr
     }
 
     fn logical_null_count(&self, body: &[u8]) -> Result<u64, Stop> {
-        self.slots.null_count(body)
+        self.null_count(body)
     }
 
     fn slice(&self, start: u64, n: u64) -> Result<Self, Stop> {

@@ -1,5 +1,0 @@
-use Rattle.layout.proofs.Holding.{layout-holds}
-use Rattle.layout.proofs.layout_holds.Needs as need
-
-pub returns : need.returns
-returns c = layout-holds
