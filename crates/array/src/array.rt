@@ -2,6 +2,7 @@ ghost use mathlib.Core.Path.{_≡_};
 ghost use mathlib.Core.List.{List};
 ghost use mathlib.Core.Bool.{Bool, true, false, not};
 ghost use Prim.Native.Nat.{ℕ, _+_, _<_, _≤_};
+ghost use lib.IntN.{ℤ};
 ghost use Rattle.std.specs.declared.option.Option.{Option};
 ghost use Rattle.std.specs.declared.option.Option.the-variants.{Some};
 ghost use Rattle.layout.specs.Spans.{Span, Within, Alike, inBody};
@@ -90,13 +91,16 @@ pub trait Array: Sized {
 pub trait ArrayAccessor: Array {
     type Item;
 
-    // What slot i holds, null or not (nothing: a list's words that are no range), and the bits that this is worked out from.
+    // What slot i holds, null or not (nothing: a list's words that are no range).
     ghost item: { Self → List ℕ → ℕ → Option Self·Item };
+    // The numbers that it is worked out from (a leaf's number, a list's range), and the bits that these are worked out from.
+    ghost source: { Self → List ℕ → ℕ → Option (ℤ × ℤ) };
     ghost itemNeed: { Self → ℕ → List Span };
     // An item as an entry.
     ghost told: { Self·Item → List ℕ → Entry };
 
-    law itemNeeds: { (a : Self) (i : ℕ) → i < Self·Array .size a → Needed (itemNeed a i) (λ b. item a b i) };
+    law itemNeeds: { (a : Self) (i : ℕ) → i < Self·Array .size a → Needed (itemNeed a i) (λ b. source a b i) };
+    law itemFrom: { (a : Self) (b c : List ℕ) (i : ℕ) → i < Self·Array .size a → source a b i ≡ source a c i → item a b i ≡ item a c i };
     // A present slot's entry is what its item tells.
     law itemTold: { (a : Self) (b : List ℕ) (i : ℕ) (x : Self·Item) → i < Self·Array .size a → item a b i ≡ Some x → Self·Array .mark a b i ≡ true → Self·Array .entry a b i ≡ told x b };
 

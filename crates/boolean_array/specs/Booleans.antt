@@ -1,7 +1,7 @@
 use mathlib.Core.List.{List, [], _∷_}
 use mathlib.Core.Bool.{Bool, true, false, cond}
 use Prim.Native.Nat.{ℕ, _+_, _*_}
-use lib.IntN.{pos}
+use lib.IntN.{ℤ, pos}
 use Rattle.std.specs.declared.option.Option.{Option}
 use Rattle.std.specs.declared.result.Result.{Result}
 use Rattle.ledger.specs.declared.stop.Stop.{Stop}
@@ -25,6 +25,10 @@ boolBit a i = 8 * a .place + a .slots .first + i
 -- slot i's value as a number, whatever its mark
 abbrev pub boolNumber : Bool → Entry
 boolNumber v = number (pos (cond v 1 0))
+
+-- the number that a value is worked out from
+abbrev pub boolSource : Bool → ℤ × ℤ
+boolSource v = (pos (cond v 1 0), pos 0)
 
 abbrev pub boolEntry : BooleanArray → List ℕ → ℕ → Entry
 boolEntry a b i = cond (slotMark (a .slots) b i) (boolNumber (bitSet b (boolBit a i))) absent

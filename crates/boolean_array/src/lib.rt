@@ -8,7 +8,7 @@ ghost use Rattle.history.specs.Calls.{TrialLeads, StopLeads};
 ghost use Rattle.form.specs.Forms.{leafForm};
 ghost use Rattle.ledger.specs.Ledger.{accountsOf};
 ghost use Rattle.slots.specs.Slots.{slotMark, slotNeed};
-ghost use Rattle.boolean_array.specs.Booleans.{boolBit, boolNumber, boolEntry, boolNeed, boolSpans, boolCut, boolSeen, boolReply};
+ghost use Rattle.boolean_array.specs.Booleans.{boolBit, boolNumber, boolSource, boolEntry, boolNeed, boolSpans, boolCut, boolSeen, boolReply};
 use array::array::Array;
 use array::array::ArrayAccessor;
 use boolean_array::BooleanArray;
@@ -101,6 +101,7 @@ pub impl ArrayAccessor for BooleanArray as BooleanArrayAccessor {
     type Item = bool;
 
     ghost item = { λ a b i. Some (bitSet b (boolBit a i)) };
+    ghost source = { λ a b i. Some (boolSource (bitSet b (boolBit a i))) };
     ghost itemNeed = { boolNeed };
     ghost told = { λ v b. boolNumber v };
 

@@ -15,8 +15,3 @@ use Rattle.form.specs.Forms.{places, codeIn, withCode, digitCount, inFront}
 -- a bits of n over b bits of f
 pub shifted : (a b n f : ℕ) → n < 2 ^ a → f < 2 ^ (b + a) → bitOr (n * 2 ^ b % 2 ^ (a + b)) (f / 2 ^ a) ≡ n * 2 ^ b + f / 2 ^ a
 shifted a b n f h k = rw (shl-whole n a b (a + b) h (le-refl (a + b))) (or-shifted n b (f / 2 ^ a) (shr-below f b a k))
-
-pub placed : (k n code : ℕ) (f : DataType) → k + digitCount f ≤ places → code ≡ n * 16 ^ (places - k) + codeIn f / 16 ^ k
-    → _≡_ {A = Result DataType Stop} (Ok (withCode code)) (inFront k n f)
-placed k n code f h e =
-    ap (λ x. Ok (withCode x)) e ∙ sym (cond-true (leb (k + digitCount f) places) _ _ (le-leb (k + digitCount f) places h))

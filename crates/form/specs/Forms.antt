@@ -28,17 +28,24 @@ leafForm d = withCode (d % 16 * 16 ^ (places - 1))
 abbrev pub digitCount : DataType → ℕ
 digitCount f = places - trailingZeros (4 * places) (codeIn f) / 4
 
--- the reply where k digits that write n are put in front of a form
+-- k digits that write n, in front of a form, whose last digits fall off where there is no place for them
+abbrev pub fronted : ℕ → ℕ → DataType → DataType
+fronted k n f = withCode (n * 16 ^ (places - k) + codeIn f / 16 ^ k)
+
+-- the same as a reply: a stop where there is no place
 abbrev pub inFront : ℕ → ℕ → DataType → Result DataType Stop
-inFront k n f =
-    cond (leb (k + digitCount f) places)
-    (Ok (withCode (n * 16 ^ (places - k) + codeIn f / 16 ^ k)))
-    (Err (stopped FormTooLong))
+inFront k n f = cond (leb (k + digitCount f) places) (Ok (fronted k n f)) (Err (stopped FormTooLong))
 
 -- one digit, the lowest four bits of d
+abbrev pub layerForm : DataType → ℕ → DataType
+layerForm f d = fronted 1 (d % 16) f
+
 abbrev pub layerReply : DataType → ℕ → Result DataType Stop
 layerReply f d = inFront 1 (d % 16) f
 
 -- the digit 12 and eight digits of the size
+abbrev pub fixedForm : DataType → ℕ → DataType
+fixedForm f size = fronted 9 (12 * 16 ^ 8 + size) f
+
 abbrev pub fixedReply : DataType → ℕ → Result DataType Stop
 fixedReply f size = inFront 9 (12 * 16 ^ 8 + size) f

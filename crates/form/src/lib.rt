@@ -3,7 +3,7 @@ ghost use lib.Dec.{eqb};
 ghost use lib.ListN.{length};
 ghost use mathlib.Core.Path.{_≡_};
 ghost use Rattle.form.specs.Examples.{Builds, examples, ExamplesHold};
-ghost use Rattle.form.specs.Forms.{codeIn, digitCount, fixedReply, layerReply, leafForm};
+ghost use Rattle.form.specs.Forms.{codeIn, digitCount, fixedForm, fixedReply, layerForm, layerReply, leafForm};
 ghost use Rattle.form.specs.Laws.{Compares, Counts, Extends};
 ghost use Rattle.form.specs.Shapes.Shape.{Fixed, Layer};
 
@@ -39,9 +39,16 @@ impl DataType {
         if self.digits() > 15 {
             return Err(Stop::new(Reason::FormTooLong));
         }
-        Ok(DataType {
+        Ok(self.with_layer(digit))
+    }
+
+    // The form under one more layer; its last digit falls off where it has 16 already.
+    pub fn with_layer(self, digit: u8) -> DataType
+        ensures { λ r. ⌜ r ≡ layerForm self digit ⌝ }
+    {
+        DataType {
             code: (digit as u64 & 15) << 60 | self.code >> 4,
-        })
+        }
     }
 
     // The form of a fixed list whose slots have so many entries of this form; it stops as above.
@@ -52,10 +59,17 @@ impl DataType {
         if self.digits() > 7 {
             return Err(Stop::new(Reason::FormTooLong));
         }
+        Ok(self.with_fixed(size))
+    }
+
+    // The form of such a fixed list; its last digits fall off where there is no place for them.
+    pub fn with_fixed(self, size: u32) -> DataType
+        ensures { λ r. ⌜ r ≡ fixedForm self size ⌝ }
+    {
         let front = 12 << 32 | size as u64;
-        Ok(DataType {
+        DataType {
             code: front << 28 | self.code >> 36,
-        })
+        }
     }
 
     // Whether two forms are the same.

@@ -2,18 +2,18 @@ use mathlib.Core.Path.{_≡_, refl, sym, ap, _∙_}
 use mathlib.Core.List.{List, [], _∷_}
 use mathlib.Core.Logic.{_⊎_, inl, inr, ⊎-elim}
 use mathlib.Core.Bool.{Bool, true, false, cond}
-use Prim.Native.Nat.{ℕ, zero, suc, _+_, _-_, _*_, _/_, _%_, _^_, _<_, _≤_}
+use Prim.Native.Nat.{ℕ, zero, suc, _+_, _-_, _*_, _/_, _%_, _^_, _<_, _≤_, max}
 use native.Mathlib.Nat.{mul-add, mul-assoc, pow-suc}
 use native.Mathlib.Omega.{arith}
 use native.Mathlib.Decide.{decLe}
-use lib.Dec.{ltb}
-use lib.ListN.{getD}
+use lib.Dec.{ltb, leb}
+use lib.ListN.{getD, length}
 use lib.IntN.{ℤ, pos, negsuc}
 use borrow.Author.Tests.{lt-ltb}
 use Rattle.std.proofs.shelf.Bits.{pow-add, shr-high, pow-pos}
 use Rattle.layout.specs.Bits.{bitAt}
 use Rattle.layout.specs.Words.{byteAt, wordAt, signedOf}
-use Rattle.layout.specs.Spans.{Span, span, Within, Alike}
+use Rattle.layout.specs.Spans.{Span, span, wordSpan, Within, Alike, inBody}
 use Rattle.layout.specs.Needs.{Sways, Needed}
 use Rattle.layout.proofs.OneBit.{oneBit, one-there, no-bit, one-else}
 use Rattle.layout.proofs.Sameness.{word-alike}
@@ -64,19 +64,55 @@ word-needed f zeroAlone p w =
           let t = one-there k in
           absurd (omega arith))
 
+-- what is read of two words needs all of their bits, where it tells two words that are 0 from all others
+pub words-needed : {X : Type 0} (f : ℕ → ℕ → X) → ((m n : ℕ) → f m n ≡ f 0 0 → (m ≡ 0) × (n ≡ 0)) → (p q w : ℕ)
+  → Needed (wordSpan w p ∷ wordSpan w q ∷ []) (λ b. f (wordAt b p w) (wordAt b q w))
+words-needed f zeroAlone p q w =
+    record
+    { enough = λ b c h. rw (word-alike b c p w (λ k l m. h k (inl (l, m))), word-alike b c q w (λ k l m. h k (inr (inl (l, m))))) refl
+    ; none-idle = λ k h. sway k h }
+  where
+    sway : (k : ℕ) → Within (wordSpan w p ∷ wordSpan w q ∷ []) k → Sways (λ b. f (wordAt b p w) (wordAt b q w)) k
+    sway k h =
+        (oneBit k, [], one-else k, λ e.
+          let z = zeroAlone (wordAt (oneBit k) p w) (wordAt (oneBit k) q w) (e ∙ rw (word-none p w, word-none q w) refl) in
+          let t = one-there k in
+          ⊎-elim
+          (λ l. let o = word-bits (oneBit k) p w k (z .0) (l .0) (l .1) in absurd (omega arith))
+          (⊎-elim (λ l. let o = word-bits (oneBit k) q w k (z .1) (l .0) (l .1) in absurd (omega arith)) (λ x. absurd x))
+          h)
+
+-- where two words end
+pub words-in : (w p q : ℕ) (b : List ℕ) → 0 < w → p ≤ q → inBody (wordSpan w p ∷ wordSpan w q ∷ []) b ≡ leb (q + w) (length b)
+words-in w p q b h l =
+    let t : ltb (8 * p) (8 * (p + w)) ≡ true = lt-ltb _ _ (omega arith) in
+    let u : ltb (8 * q) (8 * (q + w)) ≡ true = lt-ltb _ _ (omega arith) in
+    let m : max (8 * (p + w)) (max (8 * (q + w)) 0) ≡ 8 * (q + w) = omega arith in
+    rw (t, u, m) (scale (q + w) (length b))
+  where
+    scale : (x y : ℕ) → leb (8 * x) (8 * y) ≡ leb x y
+    scale x y = grind arith
+
 whole : ℤ → ℕ
 whole (pos n) = n
 whole (negsuc n) = 1
 
+pos-256 : (w : ℕ) → 2 * 0 < 256 ^ w
+pos-256 zero = omega arith
+pos-256 (suc w) = let h = pos-256 w in rw pow-suc (omega arith)
+
+pub signed-none : (w : ℕ) → signedOf w 0 ≡ pos 0
+unfolding signedOf
+signed-none w = rw (lt-ltb (2 * 0) (256 ^ w) (pos-256 w)) refl
+
 -- a signed number is 0 only where its word is
-pub signed-zero : (w n : ℕ) → signedOf w n ≡ signedOf w 0 → n ≡ 0
+pub signed-alone : (w n : ℕ) → signedOf w n ≡ pos 0 → n ≡ 0
 unfolding signedOf whole
-signed-zero w n h =
-    by (ltb (2 * n) (256 ^ w)) (h ∙ rw (lt-ltb (2 * 0) (256 ^ w) (pos-256 w)) refl)
+signed-alone w n h = by (ltb (2 * n) (256 ^ w)) h
   where
-    pos-256 : (w : ℕ) → 2 * 0 < 256 ^ w
-    pos-256 zero = omega arith
-    pos-256 (suc w) = let h = pos-256 w in rw pow-suc (omega arith)
     by : (t : Bool) → cond t (pos n) (negsuc (256 ^ w - suc n)) ≡ pos 0 → n ≡ 0
     by true e = ap whole e
     by false e = let z : _≡_ {A = ℕ} 1 0 = ap whole e in absurd (omega arith)
+
+pub signed-zero : (w n : ℕ) → signedOf w n ≡ signedOf w 0 → n ≡ 0
+signed-zero w n h = signed-alone w n (h ∙ signed-none w)

@@ -2,7 +2,7 @@ use mathlib.Core.Path.{_≡_}
 use mathlib.Core.List.{List, [], _∷_}
 use mathlib.Core.Logic.{_⊎_}
 use mathlib.Core.Bool.{Bool, true, false, cond}
-use Prim.Native.Nat.{ℕ, _*_, _<_, _≤_, max}
+use Prim.Native.Nat.{ℕ, _+_, _*_, _<_, _≤_, max}
 use lib.ListN.{length}
 use lib.Dec.{ltb, leb}
 use Rattle.layout.specs.Bits.{bitAt}
@@ -14,6 +14,10 @@ pub record Span : Type 0 where
 
 abbrev pub span : ℕ → ℕ → Span
 span f t = record { from = f; to = t }
+
+-- the bits of the word of w bytes at a place
+abbrev pub wordSpan : ℕ → ℕ → Span
+wordSpan w p = span (8 * p) (8 * (p + w))
 
 -- bit k is one of the spans' bits
 abbrev pub Within : List Span → ℕ → Type 0

@@ -1,6 +1,7 @@
 ghost use mathlib.Core.Path.{_≡_};
 ghost use mathlib.Core.List.{[]};
 ghost use Prim.Native.Nat.{ℕ, _+_, _*_, _≤_};
+ghost use lib.IntN.{pos};
 ghost use Rattle.std.specs.Results.{Cases};
 ghost use Rattle.std.specs.declared.option.Option.the-variants.{Some};
 ghost use Rattle.history.specs.Entry.Entry.{number};
@@ -104,6 +105,7 @@ pub impl<T: ArrowPrimitiveType> ArrayAccessor for PrimitiveArray<T> as Primitive
     type Item = i64;
 
     ghost item = { λ a b i. Some (T·ArrowPrimitiveType .whole (wordAt b (numberPlace (T·ArrowPrimitiveType .width) (a .place) (a .slots) i) (T·ArrowPrimitiveType .width))) };
+    ghost source = { λ a b i. Some (T·ArrowPrimitiveType .whole (wordAt b (numberPlace (T·ArrowPrimitiveType .width) (a .place) (a .slots) i) (T·ArrowPrimitiveType .width)), pos 0) };
     ghost itemNeed = { λ a. numberNeed (T·ArrowPrimitiveType .width) (a .place) (a .slots) };
     ghost told = { λ v b. number v };
 

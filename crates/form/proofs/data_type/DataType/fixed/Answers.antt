@@ -1,10 +1,10 @@
 use mathlib.Core.Path.{_≡_, ap, _∙_}
-use Prim.Native.Nat.{_+_, _*_, _/_, _%_, _^_, _<_, _≤_}
+use mathlib.Core.Bool.{true}
+use Prim.Native.Nat.{_+_, _^_, _<_, _≤_}
 use native.Mathlib.Omega.{arith}
-use lib.Bits.{bitOr}
-use Rattle.std.proofs.shelf.Bits.{or-shifted}
-use Rattle.form.specs.Forms.{places, digitCount}
-use Rattle.form.proofs.Front.{shifted, placed}
+use borrow.Author.Tests.{le-leb}
+use Rattle.std.specs.declared.result.Result.the-variants.{Ok}
+use Rattle.form.specs.Forms.{places, digitCount, fixedForm, fixedReply}
 use Rattle.form.proofs.Shaped.{fixed-extends}
 use Rattle.form.proofs.data_type.DataType.fixed.Needs as need
 
@@ -13,9 +13,6 @@ returns c =
     let f = c .args .self in
     let n = c .args .size in
     let h : n < 2 ^ 32 = omega arith in
-    let k : f .code < 2 ^ 64 = omega arith in
     let l : 9 + digitCount f ≤ places = omega (arith, c .digits .ensures .answers) in
-    let e : bitOr (bitOr (12 * 2 ^ 32) n * 2 ^ 28 % 2 ^ 64) (f .code / 2 ^ 36) ≡ (12 * 16 ^ 8 + n) * 2 ^ 28 + f .code / 2 ^ 36 =
-    ap (λ x. bitOr (x * 2 ^ 28 % 2 ^ 64) (f .code / 2 ^ 36)) (or-shifted 12 32 n h) ∙ shifted 36 28 (12 * 2 ^ 32 + n) (f .code) (omega arith) k in
-    let a = placed 9 (12 * 16 ^ 8 + n) _ f l e in
+    let a : Ok (c .with-fixed .result) ≡ fixedReply f n = rw (le-leb (9 + digitCount f) places l) (ap Ok (c .with-fixed .ensures)) in
     record { answers = a; extends = fixed-extends n f _ h a }

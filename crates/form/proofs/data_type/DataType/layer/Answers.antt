@@ -1,10 +1,10 @@
 use mathlib.Core.Path.{_≡_, ap, _∙_}
-use Prim.Native.Nat.{_+_, _*_, _/_, _%_, _^_, _<_, _≤_}
+use mathlib.Core.Bool.{true}
+use Prim.Native.Nat.{_+_, _≤_}
 use native.Mathlib.Omega.{arith}
-use lib.Bits.{bitAnd, bitOr}
-use Rattle.std.proofs.shelf.Bits.{and-mask}
-use Rattle.form.specs.Forms.{places, digitCount}
-use Rattle.form.proofs.Front.{shifted, placed}
+use borrow.Author.Tests.{le-leb}
+use Rattle.std.specs.declared.result.Result.the-variants.{Ok}
+use Rattle.form.specs.Forms.{places, digitCount, layerForm, layerReply}
 use Rattle.form.proofs.Shaped.{layer-extends}
 use Rattle.form.proofs.data_type.DataType.layer.Needs as need
 
@@ -12,9 +12,6 @@ pub returns : need.returns
 returns c =
     let f = c .args .self in
     let d = c .args .digit in
-    let k : f .code < 2 ^ 64 = omega arith in
     let l : 1 + digitCount f ≤ places = omega (arith, c .digits .ensures .answers) in
-    let e : bitOr (bitAnd d 15 * 2 ^ 60 % 2 ^ 64) (f .code / 2 ^ 4) ≡ d % 16 * 2 ^ 60 + f .code / 2 ^ 4 =
-    ap (λ x. bitOr (x * 2 ^ 60 % 2 ^ 64) (f .code / 2 ^ 4)) (and-mask d 4) ∙ shifted 4 60 (d % 16) (f .code) (omega arith) k in
-    let a = placed 1 (d % 16) _ f l e in
+    let a : Ok (c .with-layer .result) ≡ layerReply f d = rw (le-leb (1 + digitCount f) places l) (ap Ok (c .with-layer .ensures)) in
     record { answers = a; extends = layer-extends d f _ a }
