@@ -12,7 +12,7 @@ use lib.IntN.{ℤ, pos, negsuc}
 use borrow.Author.Tests.{lt-ltb}
 use Rattle.std.proofs.shelf.Bits.{pow-add, shr-high, pow-pos}
 use Rattle.layout.specs.Bits.{bitAt}
-use Rattle.layout.specs.Words.{byteAt, wordAt, signedOf}
+use Rattle.layout.specs.Words.{byteAt, wordAt, wordOf, signedOf}
 use Rattle.layout.specs.Spans.{Span, span, wordSpan, Within, Alike, inBody}
 use Rattle.layout.specs.Needs.{Sways, Needed}
 use Rattle.layout.proofs.OneBit.{oneBit, one-there, no-bit, one-else}
@@ -116,3 +116,22 @@ signed-alone w n h = by (ltb (2 * n) (256 ^ w)) h
 
 pub signed-zero : (w n : ℕ) → signedOf w n ≡ signedOf w 0 → n ≡ 0
 signed-zero w n h = signed-alone w n (h ∙ signed-none w)
+
+-- a number of w bytes, read as an unsigned number of 64 bits, is 0 only where its word is
+pub unsigned-alone : (w n : ℕ) → 256 ^ w ≤ 256 ^ 8 → wordOf 8 (signedOf w n) ≡ 0 → n ≡ 0
+unfolding signedOf
+unsigned-alone w n few h = by (ltb (2 * n) (256 ^ w)) refl h
+  where
+    by : (t : Bool) → ltb (2 * n) (256 ^ w) ≡ t → wordOf 8 (cond t (pos n) (negsuc (256 ^ w - suc n))) ≡ 0 → n ≡ 0
+    by true p e = e
+    by false p e = let z = pos-256 w in let q : 256 ^ w ≤ 2 * n = grind arith in absurd (omega arith)
+
+-- two words lie in the body where each does
+pub words-inside : (w p q : ℕ) (b : List ℕ) → 0 < w → inBody (wordSpan w p ∷ wordSpan w q ∷ []) b ≡ cond (leb (p + w) (length b)) (leb (q + w) (length b)) false
+words-inside w p q b h =
+    let t : ltb (8 * p) (8 * (p + w)) ≡ true = lt-ltb _ _ (omega arith) in
+    let u : ltb (8 * q) (8 * (q + w)) ≡ true = lt-ltb _ _ (omega arith) in
+    rw (t, u) (both (p + w) (q + w) (length b))
+  where
+    both : (x y n : ℕ) → leb (max (8 * x) (max (8 * y) 0)) (8 * n) ≡ cond (leb x n) (leb y n) false
+    both x y n = grind arith
