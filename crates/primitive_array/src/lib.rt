@@ -10,7 +10,7 @@ ghost use Rattle.form.specs.Forms.{leafForm};
 ghost use Rattle.ledger.specs.Ledger.{accountsOf};
 ghost use Rattle.layout.specs.Words.{wordAt};
 ghost use Rattle.slots.specs.Slots.{slotMark, slotNeed, slotsCut};
-ghost use Rattle.slots.specs.Trials.{bytesEnd, withSlots};
+ghost use Rattle.slots.specs.Trials.{withSlots};
 ghost use Rattle.primitive_array.specs.Numbers.{numberPlace, numberNeed, numberEntry, numberSpans, numberSeen, numberReply};
 use array::array::Array;
 use array::array::ArrayAccessor;
@@ -22,6 +22,7 @@ use ledger::stop::Stop;
 use primitive_array::PrimitiveArray;
 use slots::null_buffer::NullBuffer;
 use slots::trials::try_slots;
+use slots::trials::words_end;
 use std::marker::PhantomData;
 use types::ArrowPrimitiveType;
 
@@ -39,18 +40,8 @@ pub fn try_new<T: ArrowPrimitiveType>(ledger: &Ledger, body: &[u8], place: u64, 
 fn tried<T: ArrowPrimitiveType>(ledger: &Ledger, body: &[u8], place: u64, len: u64, nulls: Option<NullBuffer>) -> Result<PrimitiveArray<T>, Stop>
     ensures { λ r. ⌜ r ≡ withSlots (λ s. record { place = place; slots = s; kind = record {} }) (numberReply (T·ArrowPrimitiveType .width) (accountsOf (now (ledger .entry))) (now (body .entry)) place len nulls) ⌝ }
 {
-    let slots = try_slots(ledger, body, words_end::<T>(place, len), len, nulls)?;
+    let slots = try_slots(ledger, body, words_end(T::width(), place, len), len, nulls)?;
     Ok(PrimitiveArray { place, slots, kind: PhantomData })
-}
-
-// Where so many numbers from a place on end; 0 where there are none.
-fn words_end<T: ArrowPrimitiveType>(place: u64, len: u64) -> u128
-    ensures { λ r. ⌜ r ≡ bytesEnd place (T·ArrowPrimitiveType .width * len) ⌝ }
-{
-    if len == 0 {
-        return 0;
-    }
-    place as u128 + T::width() as u128 * len as u128
 }
 
 pub impl<T: ArrowPrimitiveType> Array for PrimitiveArray<T> as PrimitiveArrayArray {

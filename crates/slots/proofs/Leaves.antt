@@ -86,7 +86,7 @@ leaf-cases g b own len nulls f P Q p q =
     by true true false w m eu ev ew em = q (stopped BeyondBytes)
     by true true true false m eu ev ew em = q (stopped TooLarge)
     by true true true true (Err e) eu ev ew em = q e
-    by true true true true (Ok tt) eu ev ew em =
+    by true true true true (Ok u0) eu ev ew em =
         p (leb-true _ _ eu) (leb-true _ _ ew) (λ k h. marks-loaded nulls len (g .loaded) k (leb-true _ _ ev) em h)
 
 -- a bit of a trial's own bytes lies in the loaded ones

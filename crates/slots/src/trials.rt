@@ -24,6 +24,17 @@ pub fn bytes_end(place: u64, bytes: u64) -> u128
     place as u128 + bytes as u128
 }
 
+// Where so many words of a width from a place on end; 0 where there are none.
+pub fn words_end(width: u64, place: u64, count: u64) -> u128
+    ensures { λ r. ⌜ r ≡ bytesEnd place (width * count) ⌝ }
+{
+    let bytes = width as u128 * count as u128;
+    if bytes == 0 {
+        return 0;
+    }
+    place as u128 + bytes
+}
+
 // The bytes of n bits.
 pub fn bit_bytes(n: u64) -> u64
     ensures { λ r. ⌜ r ≡ bitBytes n ⌝ }
