@@ -110,3 +110,10 @@ list-loaded s words child loaded hw hm k h = by (eqb (s .len) 0) refl h
         ⊎-elim (λ q. inl (hw (grind arith) k q))
         (λ q. ⊎-elim (λ r. inl (hm k r)) inr (within-either (slotSpans s) child k q))
         (within-either words (slotSpans s ++ child) k p)
+
+-- the same with one test more
+pub five-cases : {X : Type 0} (x y z t u : Result (Unit {0}) Stop) (v : X) (r : Result X Stop) (P : X → Type 0) (Q : Type 0)
+  → r ≡ andThen x (andThen y (andThen z (andThen t (andThen u (Ok v)))))
+  → (x ≡ Ok tt → y ≡ Ok tt → z ≡ Ok tt → P v) → Q → Cases r P (λ e. Q)
+five-cases x y z (Ok t) u v r P Q e f q = four-cases x y z u v r P Q e f q
+five-cases x y z (Err t) u v r P Q e f q = four-cases x y z (Err t) v r P Q e f q
