@@ -41,6 +41,8 @@ pub trait Array: Sized {
     law limit: { (a : Self) → size a ≤ lengthLimit };
     // A null mark means an absent entry.
     law nullAbsent: { (a : Self) (b : List ℕ) (i : ℕ) → i < size a → mark a b i ≡ false → isAbsent (entry a b i) ≡ true };
+    // A present slot shows its entry.
+    law shownEntry: { (a : Self) (b : List ℕ) (i : ℕ) → i < size a → mark a b i ≡ true → shown a b i ≡ entry a b i };
     // The named bits are enough for the answers, and none of them is idle.
     law markNeeds: { (a : Self) (i : ℕ) → i < size a → Needed (markNeed a i) (λ b. mark a b i) };
     law absentNeeds: { (a : Self) (i : ℕ) → i < size a → Needed (absentNeed a i) (λ b. isAbsent (entry a b i)) };
