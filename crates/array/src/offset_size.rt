@@ -1,10 +1,12 @@
 ghost use mathlib.Core.Path.{_≡_};
 ghost use mathlib.Core.Logic.{_⊎_};
-ghost use Prim.Native.Nat.{ℕ, _+_, _/_};
-ghost use Rattle.layout.specs.Words.{signedReply};
+ghost use Prim.Native.Nat.{ℕ, suc, _+_, _/_, _%_};
+ghost use Rattle.layout.specs.Words.{signedReply, wordFits, written};
 ghost use Rattle.array.specs.Offsets.{largestOf};
 use layout::words::get_i32;
 use layout::words::get_i64;
+use layout::words::put_i32;
+use layout::words::put_i64;
 
 // A kind of offsets: signed numbers of four or eight bytes.
 pub trait OffsetSizeTrait {
@@ -29,6 +31,12 @@ pub trait OffsetSizeTrait {
     // The offset at a place, or nothing where it does not lie in the body.
     fn read(body: &[u8], at: u64) -> Option<i64>
         ensures { λ r. ⌜ r ≡ signedReply (now (body .entry)) at width ⌝ };
+
+    // Writes an offset at a place, without what passes the largest offset's bits; false, and nothing written, where it
+    // does not lie in the body.
+    fn write(body: &mut [u8], at: u64, offset: u64) -> bool
+        ensures fits { λ r. ⌜ r ≡ wordFits (now (body .entry)) at width ⌝ }
+        ensures leaves { λ _. ⌜ now (body .exit) ≡ written width (now (body .entry)) at (offset % suc (largestOf width)) ⌝ };
 }
 
 pub impl OffsetSizeTrait for i32 as I32OffsetSize {
@@ -56,6 +64,10 @@ pub impl OffsetSizeTrait for i32 as I32OffsetSize {
             None => None,
         }
     }
+
+    fn write(body: &mut [u8], at: u64, offset: u64) -> bool {
+        put_i32(body, at, (offset & 0x7fff_ffff) as i32)
+    }
 }
 
 pub impl OffsetSizeTrait for i64 as I64OffsetSize {
@@ -79,5 +91,9 @@ pub impl OffsetSizeTrait for i64 as I64OffsetSize {
 
     fn read(body: &[u8], at: u64) -> Option<i64> {
         get_i64(body, at)
+    }
+
+    fn write(body: &mut [u8], at: u64, offset: u64) -> bool {
+        put_i64(body, at, (offset & 0x7fff_ffff_ffff_ffff) as i64)
     }
 }
