@@ -46,3 +46,19 @@ reservation a bytes = cond (hasPlace a bytes) (Ok (aligned (a .end))) (Err (stop
 abbrev pub reserved : Accounts → ℕ → Accounts
 reserved a bytes =
     cond (hasPlace a bytes) (record { length = a .length; loaded = a .loaded; end = aligned (a .end) + bytes }) a
+
+-- where the second of two runs of bytes starts
+abbrev pub second : Accounts → ℕ → ℕ
+second a bytes = aligned (aligned (a .end) + bytes)
+
+-- whether two runs of bytes, one after the other, have a place
+abbrev pub havePlaces : Accounts → ℕ → ℕ → Bool
+havePlaces a bytes more = leb (second a bytes + more) (a .length)
+
+-- the reply of two reservations, both or neither, and the ledger after it
+abbrev pub reservation2 : Accounts → ℕ → ℕ → Result (ℕ × ℕ) Stop
+reservation2 a bytes more = cond (havePlaces a bytes more) (Ok (aligned (a .end), second a bytes)) (Err (stopped NoPlaceLeft))
+
+abbrev pub reserved2 : Accounts → ℕ → ℕ → Accounts
+reserved2 a bytes more =
+    cond (havePlaces a bytes more) (record { length = a .length; loaded = a .loaded; end = second a bytes + more }) a

@@ -1,7 +1,7 @@
 ghost use mathlib.Core.Path.{_≡_};
 ghost use Rattle.std.specs.Results.{Cases};
 ghost use Rattle.history.specs.Calls.{OpenLeads, ReserveLeads, StopLeads};
-ghost use Rattle.ledger.specs.Ledger.{accountsOf, Opening, reservation, reserved};
+ghost use Rattle.ledger.specs.Ledger.{accountsOf, Opening, reservation, reserved, reservation2, reserved2};
 
 pub mod stop;
 pub mod ledger;
@@ -36,5 +36,24 @@ impl Ledger {
         }
         self.end = end as u64;
         Ok(start as u64)
+    }
+
+    // Places for two runs of bytes, one after the other: both or neither.
+    pub fn reserve_two(&mut self, bytes: u128, more: u128) -> Result<(u64, u64), Stop>
+        ensures answers { λ r. ⌜ r ≡ reservation2 (accountsOf (now (self .entry))) bytes more ⌝ }
+        ensures leaves { λ _. ⌜ accountsOf (now (self .exit)) ≡ reserved2 (accountsOf (now (self .entry))) bytes more ⌝ }
+        ensures leads { λ _. ⌜ ReserveLeads (accountsOf (now (self .entry)) .end) (accountsOf (now (self .exit)) .end) ⌝ }
+    {
+        let length = self.length as u128;
+        let first = (self.end as u128 + 7) / 8 * 8;
+        if bytes > length || first > length - bytes {
+            return Err(Stop::new(Reason::NoPlaceLeft));
+        }
+        let second = (first + bytes + 7) / 8 * 8;
+        if more > length || second > length - more {
+            return Err(Stop::new(Reason::NoPlaceLeft));
+        }
+        self.end = (second + more) as u64;
+        Ok((first as u64, second as u64))
     }
 }
