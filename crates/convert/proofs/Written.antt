@@ -20,7 +20,14 @@ use Rattle.layout.proofs.WordLaws.{others-stay, written-is-read}
 use Rattle.layout.proofs.Sameness.{word-alike}
 use Rattle.array.specs.Windows.{Range}
 use Rattle.array.specs.Offsets.{largestOf}
-use Rattle.convert.specs.Writing.{startOf, sizeOf, offsetPut, viewsPut}
+use Rattle.layout.specs.Spans.{Span, Within, inBody}
+use Rattle.layout.specs.Needs.{Needed}
+use Rattle.slots.specs.Replies.{findReply, found}
+use Rattle.ledger.specs.declared.stop.Reason.the-variants.{BeyondBytes, IndexPastEnd}
+use Rattle.ledger.specs.Stops.{stopped}
+use Rattle.std.specs.declared.option.Option.{Option}
+use lib.Dec.{ltb}
+use Rattle.convert.specs.Writing.{startOf, sizeOf, offsetPut, viewsPut, Written, ViewsShow}
 
 -- what one written offset leaves
 module _ (w : ℕ) (known : (w ≡ 4) ⊎ (w ≡ 8)) where
@@ -53,13 +60,6 @@ module _ (w : ℕ) (known : (w ≡ 4) ⊎ (w ≡ 8)) where
 -- word number i of a run lies before word number n
 apart : (w i n : ℕ) → i < n → w * i + w ≤ w * n
 apart w i n l = let p = mul-le w (i + 1) w n (omega arith) (omega arith) in let d = mul-add w i 1 in omega arith
-
--- what is written of n slots
-pub record Written (w starts sizes : ℕ) (range : ℕ → Result Range Stop) (b c : List ℕ) (n : ℕ) : Type 0 where
-  pub size : length c ≡ length b
-  pub kept : (j : ℕ) → j < 8 * starts → bitAt c j ≡ bitAt b j
-  pub begins : (i : ℕ) → i < n → wordAt c (starts + w * i) w ≡ startOf (range i)
-  pub counts : (i : ℕ) → i < n → wordAt c (sizes + w * i) w ≡ sizeOf (range i)
 
 module _ (w : ℕ) (known : (w ≡ 4) ⊎ (w ≡ 8)) (range : List ℕ → ℕ → Result Range Stop) (starts sizes : ℕ) (b : List ℕ) (all : ℕ)
   (room : starts + w * all ≤ sizes) (fits : sizes + w * all ≤ length b)
@@ -120,3 +120,13 @@ pub views-more : (w : ℕ) (range : List ℕ → ℕ → Result Range Stop) (sta
   → offsetPut w (offsetPut w c starts n (startOf (range c n))) sizes n (sizeOf (range c n)) ≡ viewsPut w range starts sizes b (n + 1)
 unfolding viewsPut
 views-more w range starts sizes b c n e = rw (add-one n, e) refl
+
+-- the law, from what the array's own laws say of its ranges
+pub views-show : (w : ℕ) (known : (w ≡ 4) ⊎ (w ≡ 8)) (size : ℕ) (need : ℕ → List Span) (range : List ℕ → ℕ → Option Range) (starts sizes : ℕ) (b : List ℕ)
+  → ((i : ℕ) → i < size → Needed (need i) (λ c. range c i))
+  → ViewsShow w size need range starts sizes b (viewsPut w (λ c i. findReply size need (range c) c i) starts sizes b size)
+views-show w known size need range starts sizes b law room fits under small =
+    views-written w known (λ c i. findReply size need (range c) c i) starts sizes b size room fits same small size (omega arith)
+  where
+    same : (c : List ℕ) → length c ≡ length b → ((j : ℕ) → j < 8 * starts → bitAt c j ≡ bitAt b j) → (i : ℕ) → i < size → findReply size need (range c) c i ≡ findReply size need (range b) b i
+    same c e h i l = rw (e, law i l .enough c b (λ k p. h k (under i l k p))) refl

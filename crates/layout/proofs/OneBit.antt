@@ -25,7 +25,8 @@ alone-else zero v (suc p) h = refl
 alone-else (suc n) v zero h = refl
 alone-else (suc n) v (suc p) h = alone-else n v p (λ e. h (omega arith))
 
-power-bit : (x y : ℕ) → (y ≡ x → ⊥) → 2 ^ x / 2 ^ y % 2 ≡ 0
+-- a power of two has no other bit
+pub power-bit : (x y : ℕ) → (y ≡ x → ⊥) → 2 ^ x / 2 ^ y % 2 ≡ 0
 power-bit x y h =
     elim (decLe x y)
     [ yes l ↦ (let e = shr-high 0 y (2 ^ x) (pow-below x y (omega arith)) in

@@ -25,9 +25,17 @@ use slots::trials::try_slots;
 use slots::trials::words_end;
 use std::marker::PhantomData;
 use types::ArrowPrimitiveType;
+use types::Int32Type;
+use types::Int64Type;
+use types::UInt16Type;
 
 pub mod primitive_array;
 pub mod types;
+
+// The number leaves by their kinds.
+pub type UInt16Array = PrimitiveArray<UInt16Type>;
+pub type Int32Array = PrimitiveArray<Int32Type>;
+pub type Int64Array = PrimitiveArray<Int64Type>;
 
 // A number leaf of so many slots on the loaded bytes.
 pub fn try_new<T: ArrowPrimitiveType>(ledger: &Ledger, body: &[u8], place: u64, len: u64, nulls: Option<NullBuffer>) -> Result<PrimitiveArray<T>, Stop>

@@ -1,7 +1,7 @@
 use mathlib.Core.Path.{_≡_}
 use Rattle.slots.specs.Replies.{findReply}
 use Rattle.convert.specs.Writing.{viewsPut}
-use Rattle.convert.proofs.write_views.Given as given
+use Rattle.convert.proofs.put_views.Given as given
 
 abbrev pub Inv-loop-i : given.InvT-loop-i
 Inv-loop-i g l =

@@ -1,0 +1,4 @@
+pub mod Listings
+pub mod Tallies
+pub mod Sessions
+pub mod Blocks
