@@ -1,6 +1,7 @@
 use mathlib.Core.Path.{_≡_}
 use mathlib.Core.List.{List}
 use mathlib.Core.Bool.{Bool, true, false, cond}
+use native.Mathlib.Omega.{arith}
 use lib.Dec.{leb}
 use lib.ListN.{length}
 use Rattle.std.specs.declared.option.Option.{Option}
@@ -12,6 +13,8 @@ use Rattle.std.specs.declared.result.Result.{Result}
 use Rattle.std.specs.declared.result.Result.the-variants.{Ok, Err}
 use Rattle.ledger.specs.declared.stop.Stop.{Stop}
 use Rattle.layout.specs.Words.{written, wordAt}
+use Rattle.slots.specs.declared.slots.Slots.{Slots}
+use Rattle.slots.specs.Bounds.{lengthLimit}
 use Rattle.array.specs.Windows.{Range}
 use Rattle.array.specs.Offsets.{largestOf}
 
@@ -54,3 +57,11 @@ ViewsShow w size need range starts sizes b c =
 -- the words of both lie in the body
 abbrev pub viewsFit : ℕ → ℕ → ℕ → ℕ → List ℕ → Bool
 viewsFit w starts sizes n b = cond (leb (starts + w * n) (length b)) (leb (sizes + w * n) (length b)) false
+
+pub fresh-words : (first len : ℕ) → first + len ≤ lengthLimit → 0 + len ≤ lengthLimit
+fresh-words first len h = omega arith
+
+-- the slots of a conversion: words from the first one on, the same marks
+abbrev pub freshSlots : Slots → Slots
+freshSlots s =
+    record { first = 0; len = s .len; marks = s .marks; «words_end» = fresh-words (s .first) (s .len) (s .«words_end»); «marks_end» = s .«marks_end» }

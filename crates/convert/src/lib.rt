@@ -1,12 +1,28 @@
 ghost use mathlib.Core.Path.{_≡_};
 ghost use Prim.Native.Nat.{ℕ, _+_, _*_, _<_, _≤_};
 ghost use lib.ListN.{length};
-ghost use Rattle.slots.specs.Replies.{findReply};
+ghost use Rattle.std.specs.Results.{isOk};
+ghost use Rattle.history.specs.Entry.{isAbsent};
+ghost use Rattle.layout.specs.Spans.{inBody};
+ghost use Rattle.ledger.specs.Ledger.{accountsOf, aligned, second, reservation2, reserved2};
+ghost use Rattle.slots.specs.Replies.{findReply, countReply};
+ghost use Rattle.slots.specs.Trials.{andThen};
+ghost use Rattle.checks.specs.Checks.{taken};
+ghost use Rattle.list_array.specs.Offsets.{listRange, listNeed};
+ghost use Rattle.convert.specs.Turning.{allOk, offsetSpans, turnTests};
 ghost use mathlib.Core.Bool.{true, cond};
+ghost use Rattle.std.specs.declared.result.Result.the-variants.{Ok};
 ghost use Rattle.convert.specs.Writing.{viewsPut, viewsFit, startOf, sizeOf, ViewsShow};
+use array::array::Array;
 use array::array::ListLikeArray;
 use array::offset_size::OffsetSizeTrait;
+use checks::check_absent;
+use ledger::ledger::Ledger;
+use ledger::stop::Reason;
 use ledger::stop::Stop;
+use list_array::GenericListArrayArray;
+use list_array::GenericListArrayListLike;
+use list_array::list_array::GenericListArray;
 
 fn start_of(range: Result<(u64, u64), Stop>) -> u64
     ensures { λ r. ⌜ r ≡ startOf range ⌝ }
@@ -55,4 +71,55 @@ fn put_views<O: OffsetSizeTrait, L: ListLikeArray>(body: &mut [u8], a: &L, start
         let _ = O::write(body, starts + w * i, start);
         let _ = O::write(body, sizes + w * i, size);
     }
+}
+
+// Whether every slot has a range.
+fn all_ranges<L: ListLikeArray>(body: &[u8], a: &L) -> bool
+    ensures { λ r. ⌜ r ≡ allOk (λ i. findReply (L·Array .size (now (a .entry))) (L·ListLikeArray .rangeNeed (now (a .entry))) (L·ListLikeArray .range (now (a .entry)) (now (body .entry))) (now (body .entry)) i) (L·Array .size (now (a .entry))) ⌝ }
+{
+    for i in 0..a.len() {
+        let Ok(_) = a.element_range(body, i) else {
+            return false;
+        };
+    }
+    true
+}
+
+// Whether the offsets of all slots lie in the body.
+fn offsets_in<O: OffsetSizeTrait, C: Array + Copy>(body: &[u8], a: &GenericListArray<O, C>) -> bool
+    ensures { λ r. ⌜ r ≡ inBody (offsetSpans (O·OffsetSizeTrait .width) (now (a .entry) .place) (now (a .entry) .slots)) (now (body .entry)) ⌝ }
+{
+    let len = a.slots.len;
+    if len == 0 {
+        return true;
+    }
+    a.place as u128 + O::width() as u128 * (a.slots.first as u128 + len as u128 + 1) <= body.len() as u128
+}
+
+// Stops where the field is not nullable and a bit that tells an absent entry lies beyond the body.
+fn check_counted<C: Array>(body: &[u8], nullable: bool, child: &C) -> Result<(), Stop>
+    ensures { λ r. ⌜ r ≡ cond nullable (Ok tt) (taken (countReply (C·Array .size (now (child .entry))) (C·Array .absentNeed (now (child .entry))) (λ j. isAbsent (C·Array .entry (now (child .entry)) (now (body .entry)) j)) (now (body .entry)))) ⌝ }
+{
+    if nullable {
+        return Ok(());
+    }
+    let _ = child.logical_null_count(body)?;
+    Ok(())
+}
+
+// The tests of a conversion of a list to a view.
+fn check_turn<O: OffsetSizeTrait, C: Array + Copy>(ledger: &Ledger, body: &[u8], a: &GenericListArray<O, C>) -> Result<(), Stop>
+    ensures { λ r. ⌜ r ≡ turnTests (accountsOf (now (ledger .entry))) (now (body .entry)) (inBody (offsetSpans (O·OffsetSizeTrait .width) (now (a .entry) .place) (now (a .entry) .slots)) (now (body .entry))) (now (a .entry) .field .nullable) (countReply (C·Array .size (now (a .entry) .child)) (C·Array .absentNeed (now (a .entry) .child)) (λ j. isAbsent (C·Array .entry (now (a .entry) .child) (now (body .entry)) j)) (now (body .entry))) (allOk (λ i. findReply (now (a .entry) .slots .len) (listNeed (O·OffsetSizeTrait .width) (now (a .entry) .place) (now (a .entry) .slots)) (listRange (O·OffsetSizeTrait .width) (now (a .entry) .place) (now (a .entry) .slots) (C·Array .size (now (a .entry) .child)) (now (body .entry))) (now (body .entry)) i) (now (a .entry) .slots .len)) ⌝ }
+{
+    if body.len() as u64 != ledger.length() {
+        return Err(Stop::new(Reason::BodyLengthDiffers));
+    }
+    if !offsets_in(body, a) {
+        return Err(Stop::new(Reason::BeyondBytes));
+    }
+    check_counted(body, a.field.nullable, &a.child)?;
+    if !all_ranges(body, a) {
+        return Err(Stop::new(Reason::NoRange));
+    }
+    check_absent(body, a.field.nullable, &a.child)
 }
