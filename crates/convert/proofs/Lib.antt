@@ -1,3 +1,4 @@
 pub mod Written
 pub mod Turning
 pub mod AllTaken
+pub mod ListTurning

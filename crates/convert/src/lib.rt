@@ -12,7 +12,7 @@ ghost use Rattle.list_array.specs.Offsets.{listRange, listNeed};
 ghost use Rattle.convert.specs.Turning.{allOk, offsetSpans, turnTests};
 ghost use mathlib.Core.Bool.{true, cond};
 ghost use Rattle.std.specs.declared.result.Result.the-variants.{Ok};
-ghost use Rattle.convert.specs.Writing.{viewsPut, viewsFit, startOf, sizeOf, ViewsShow};
+ghost use Rattle.convert.specs.Writing.{viewsPut, viewsFit, startOf, sizeOf, freshSlots, ViewsShow};
 use array::array::Array;
 use array::array::ListLikeArray;
 use array::offset_size::OffsetSizeTrait;
@@ -23,6 +23,7 @@ use ledger::stop::Stop;
 use list_array::GenericListArrayArray;
 use list_array::GenericListArrayListLike;
 use list_array::list_array::GenericListArray;
+use slots::slots::Slots;
 
 fn start_of(range: Result<(u64, u64), Stop>) -> u64
     ensures { λ r. ⌜ r ≡ startOf range ⌝ }
@@ -122,4 +123,24 @@ fn check_turn<O: OffsetSizeTrait, C: Array + Copy>(ledger: &Ledger, body: &[u8],
         return Err(Stop::new(Reason::NoRange));
     }
     check_absent(body, a.field.nullable, &a.child)
+}
+
+// The tests, then the places, then the words.
+fn turned<O: OffsetSizeTrait, C: Array + Copy>(ledger: &mut Ledger, body: &mut [u8], a: &GenericListArray<O, C>) -> Result<(u64, u64), Stop>
+    ensures answers { λ r. ⌜ r ≡ (andThen (turnTests (accountsOf (now (ledger .entry))) (now (body .entry)) (inBody (offsetSpans (O·OffsetSizeTrait .width) (now (a .entry) .place) (now (a .entry) .slots)) (now (body .entry))) (now (a .entry) .field .nullable) (countReply (C·Array .size (now (a .entry) .child)) (C·Array .absentNeed (now (a .entry) .child)) (λ j. isAbsent (C·Array .entry (now (a .entry) .child) (now (body .entry)) j)) (now (body .entry))) (allOk (λ i. findReply (now (a .entry) .slots .len) (listNeed (O·OffsetSizeTrait .width) (now (a .entry) .place) (now (a .entry) .slots)) (listRange (O·OffsetSizeTrait .width) (now (a .entry) .place) (now (a .entry) .slots) (C·Array .size (now (a .entry) .child)) (now (body .entry))) (now (body .entry)) i) (now (a .entry) .slots .len))) (reservation2 (accountsOf (now (ledger .entry))) (O·OffsetSizeTrait .width * now (a .entry) .slots .len) (O·OffsetSizeTrait .width * now (a .entry) .slots .len))) ⌝ }
+    ensures account { λ r. ⌜ accountsOf (now (ledger .exit)) ≡ cond (isOk r) (reserved2 (accountsOf (now (ledger .entry))) (O·OffsetSizeTrait .width * now (a .entry) .slots .len) (O·OffsetSizeTrait .width * now (a .entry) .slots .len)) (accountsOf (now (ledger .entry))) ⌝ }
+    ensures leaves { λ r. ⌜ now (body .exit) ≡ cond (isOk r) (viewsPut (O·OffsetSizeTrait .width) (λ b i. findReply (now (a .entry) .slots .len) (listNeed (O·OffsetSizeTrait .width) (now (a .entry) .place) (now (a .entry) .slots)) (listRange (O·OffsetSizeTrait .width) (now (a .entry) .place) (now (a .entry) .slots) (C·Array .size (now (a .entry) .child)) b) b i) (aligned ((accountsOf (now (ledger .entry))) .end)) (second (accountsOf (now (ledger .entry))) (O·OffsetSizeTrait .width * now (a .entry) .slots .len)) (now (body .entry)) (now (a .entry) .slots .len)) (now (body .entry)) ⌝ }
+{
+    check_turn(ledger, body, a)?;
+    let bytes = O::width() as u128 * a.slots.len as u128;
+    let (starts, sizes) = ledger.reserve_two(bytes, bytes)?;
+    let _ = write_views::<O, GenericListArray<O, C>>(body, a, starts, sizes);
+    Ok((starts, sizes))
+}
+
+// The slots of a conversion.
+fn fresh(slots: Slots) -> Slots
+    ensures { λ r. ⌜ r ≡ freshSlots slots ⌝ }
+{
+    Slots { first: 0, len: slots.len, marks: slots.marks }
 }
