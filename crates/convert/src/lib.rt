@@ -9,7 +9,13 @@ ghost use Rattle.slots.specs.Replies.{findReply, countReply};
 ghost use Rattle.slots.specs.Trials.{andThen};
 ghost use Rattle.checks.specs.Checks.{taken};
 ghost use Rattle.list_array.specs.Offsets.{listRange, listNeed};
-ghost use Rattle.convert.specs.Turning.{allOk, offsetSpans, turnTests};
+ghost use Rattle.std.specs.Results.{Cases};
+ghost use Rattle.layout.specs.Spans.{Within};
+ghost use Rattle.history.specs.Calls.{TurnLeads, StopLeads};
+ghost use Rattle.array.specs.Lists.{listSeen};
+ghost use Rattle.list_array.specs.Offsets.{listWords};
+ghost use Rattle.list_view_array.specs.Views.{viewRange, viewWords};
+ghost use Rattle.convert.specs.Turning.{allOk, offsetSpans, turnTests, made};
 ghost use mathlib.Core.Bool.{true, cond};
 ghost use Rattle.std.specs.declared.result.Result.the-variants.{Ok};
 ghost use Rattle.convert.specs.Writing.{viewsPut, viewsFit, startOf, sizeOf, freshSlots, ViewsShow};
@@ -23,7 +29,9 @@ use ledger::stop::Stop;
 use list_array::GenericListArrayArray;
 use list_array::GenericListArrayListLike;
 use list_array::list_array::GenericListArray;
+use list_view_array::list_view_array::GenericListViewArray;
 use slots::slots::Slots;
+use std::marker::PhantomData;
 
 fn start_of(range: Result<(u64, u64), Stop>) -> u64
     ensures { λ r. ⌜ r ≡ startOf range ⌝ }
@@ -143,4 +151,16 @@ fn fresh(slots: Slots) -> Slots
     ensures { λ r. ⌜ r ≡ freshSlots slots ⌝ }
 {
     Slots { first: 0, len: slots.len, marks: slots.marks }
+}
+
+// A view of a list: fresh starts and sizes, the same marks, child and field. From any moment that has the list, and in which
+// the bits that it rests on are given out, it leads to one that has the view as well, with the same cuts behind it.
+pub fn list_to_view<O: OffsetSizeTrait, C: Array + Copy>(ledger: &mut Ledger, body: &mut [u8], a: &GenericListArray<O, C>) -> Result<GenericListViewArray<O, C>, Stop>
+    ensures answers { λ r. ⌜ r ≡ made (λ p. record { starts = p .0; sizes = p .1; slots = freshSlots (now (a .entry) .slots); field = now (a .entry) .field; child = now (a .entry) .child; kind = record {} }) (andThen (turnTests (accountsOf (now (ledger .entry))) (now (body .entry)) (inBody (offsetSpans (O·OffsetSizeTrait .width) (now (a .entry) .place) (now (a .entry) .slots)) (now (body .entry))) (now (a .entry) .field .nullable) (countReply (C·Array .size (now (a .entry) .child)) (C·Array .absentNeed (now (a .entry) .child)) (λ j. isAbsent (C·Array .entry (now (a .entry) .child) (now (body .entry)) j)) (now (body .entry))) (allOk (λ i. findReply (now (a .entry) .slots .len) (listNeed (O·OffsetSizeTrait .width) (now (a .entry) .place) (now (a .entry) .slots)) (listRange (O·OffsetSizeTrait .width) (now (a .entry) .place) (now (a .entry) .slots) (C·Array .size (now (a .entry) .child)) (now (body .entry))) (now (body .entry)) i) (now (a .entry) .slots .len))) (reservation2 (accountsOf (now (ledger .entry))) (O·OffsetSizeTrait .width * now (a .entry) .slots .len) (O·OffsetSizeTrait .width * now (a .entry) .slots .len))) ⌝ }
+    ensures account { λ r. ⌜ accountsOf (now (ledger .exit)) ≡ cond (isOk r) (reserved2 (accountsOf (now (ledger .entry))) (O·OffsetSizeTrait .width * now (a .entry) .slots .len) (O·OffsetSizeTrait .width * now (a .entry) .slots .len)) (accountsOf (now (ledger .entry))) ⌝ }
+    ensures leaves { λ r. ⌜ now (body .exit) ≡ cond (isOk r) (viewsPut (O·OffsetSizeTrait .width) (λ b i. findReply (now (a .entry) .slots .len) (listNeed (O·OffsetSizeTrait .width) (now (a .entry) .place) (now (a .entry) .slots)) (listRange (O·OffsetSizeTrait .width) (now (a .entry) .place) (now (a .entry) .slots) (C·Array .size (now (a .entry) .child)) b) b i) (aligned ((accountsOf (now (ledger .entry))) .end)) (second (accountsOf (now (ledger .entry))) (O·OffsetSizeTrait .width * now (a .entry) .slots .len)) (now (body .entry)) (now (a .entry) .slots .len)) (now (body .entry)) ⌝ }
+    ensures leads { λ r. ⌜ Cases r (λ h. (((k : ℕ) → Within ((listSeen (now (a .entry) .slots) (C·Array .entry (now (a .entry) .child)) (listRange (O·OffsetSizeTrait .width) (now (a .entry) .place) (now (a .entry) .slots) (C·Array .size (now (a .entry) .child))) (listWords (O·OffsetSizeTrait .width) (now (a .entry) .place) (now (a .entry) .slots)) (C·Array .spans (now (a .entry) .child))) .rests) k → k < 8 * accountsOf (now (ledger .entry)) .end) → TurnLeads (listSeen (now (a .entry) .slots) (C·Array .entry (now (a .entry) .child)) (listRange (O·OffsetSizeTrait .width) (now (a .entry) .place) (now (a .entry) .slots) (C·Array .size (now (a .entry) .child))) (listWords (O·OffsetSizeTrait .width) (now (a .entry) .place) (now (a .entry) .slots)) (C·Array .spans (now (a .entry) .child))) (accountsOf (now (ledger .entry)) .end) (now (body .entry)) (listSeen (h .slots) (C·Array .entry (h .child)) (viewRange (O·OffsetSizeTrait .width) (h .starts) (h .sizes) (h .slots) (C·Array .size (h .child))) (viewWords (O·OffsetSizeTrait .width) (h .starts) (h .sizes) (h .slots)) (C·Array .spans (h .child))) (accountsOf (now (ledger .exit)) .end) (now (body .exit)))) (λ _. StopLeads) ⌝ }
+{
+    let (starts, sizes) = turned(ledger, body, a)?;
+    Ok(GenericListViewArray { starts, sizes, slots: fresh(a.slots), field: a.field, child: a.child, kind: PhantomData })
 }
