@@ -1,19 +1,20 @@
 use mathlib.Core.List.{List, []}
 use mathlib.Core.Bool.{Bool, true, false, cond}
-use Prim.Native.Nat.{ℕ, zero, suc, _+_, _*_}
-use lib.Dec.{eqb}
+use Prim.Native.Nat.{ℕ, zero, suc, _+_, _-_, _*_}
+use lib.Dec.{eqb, leb}
 use lib.ListN.{length}
 use Rattle.std.specs.Results.{isOk}
 use Rattle.std.specs.declared.result.Result.{Result}
 use Rattle.std.specs.declared.result.Result.the-variants.{Ok, Err}
 use Rattle.ledger.specs.declared.stop.Stop.{Stop}
-use Rattle.ledger.specs.declared.stop.Reason.the-variants.{BodyLengthDiffers, BeyondBytes, NoRange}
+use Rattle.ledger.specs.declared.stop.Reason.the-variants.{BodyLengthDiffers, BeyondBytes, NoRange, TooLarge}
 use Rattle.ledger.specs.Stops.{stopped}
 use Rattle.ledger.specs.Ledger.{Accounts, aligned, second, reservation2}
 use Rattle.layout.specs.Spans.{Span}
 use Rattle.slots.specs.declared.slots.Slots.{Slots}
 use Rattle.slots.specs.Trials.{andThen}
 use Rattle.checks.specs.Checks.{absentReply, taken}
+use Rattle.array.specs.Offsets.{largestOf}
 use Rattle.list_array.specs.Offsets.{listWords}
 
 -- each of the first n replies is taken
@@ -39,3 +40,15 @@ turnTests g b inside nullable count found =
 abbrev pub made : {X Y : Type 0} → (X → Y) → Result X Stop → Result Y Stop
 made f (Ok x) = Ok (f x)
 made f (Err e) = Err e
+
+-- starts i × size and the size itself are offsets of w bytes, for every slot
+abbrev pub startsSmall : ℕ → ℕ → ℕ → Bool
+startsSmall w size len =
+    cond (eqb len 0) true (cond (leb ((len - 1) * size) (largestOf w)) (leb size (largestOf w)) false)
+
+-- the tests of a conversion of a fixed list: the body is the ledger's, each slot has a range, the words are not too large
+abbrev pub fixedTests : Accounts → List ℕ → Bool → Bool → Result (Unit {0}) Stop
+fixedTests g b found small =
+    cond (eqb (length b) (g .length))
+    (andThen (cond found (Ok tt) (Err (stopped NoRange))) (cond small (Ok tt) (Err (stopped TooLarge))))
+    (Err (stopped BodyLengthDiffers))

@@ -15,7 +15,9 @@ ghost use Rattle.history.specs.Calls.{TurnLeads, StopLeads};
 ghost use Rattle.array.specs.Lists.{listSeen};
 ghost use Rattle.list_array.specs.Offsets.{listWords};
 ghost use Rattle.list_view_array.specs.Views.{viewRange, viewWords};
-ghost use Rattle.convert.specs.Turning.{allOk, offsetSpans, turnTests, made};
+ghost use Rattle.convert.specs.Turning.{allOk, offsetSpans, turnTests, startsSmall, fixedTests, made};
+ghost use Rattle.fixed_size_list_array.specs.Fixed.{fixedRange};
+ghost use mathlib.Core.List.{[]};
 ghost use mathlib.Core.Bool.{true, cond};
 ghost use Rattle.std.specs.declared.result.Result.the-variants.{Ok};
 ghost use Rattle.convert.specs.Writing.{viewsPut, viewsFit, startOf, sizeOf, freshSlots, ViewsShow};
@@ -26,6 +28,9 @@ use checks::check_absent;
 use ledger::ledger::Ledger;
 use ledger::stop::Reason;
 use ledger::stop::Stop;
+use fixed_size_list_array::FixedSizeListArrayArray;
+use fixed_size_list_array::FixedSizeListArrayListLike;
+use fixed_size_list_array::fixed_size_list_array::FixedSizeListArray;
 use list_array::GenericListArrayArray;
 use list_array::GenericListArrayListLike;
 use list_array::list_array::GenericListArray;
@@ -162,5 +167,55 @@ pub fn list_to_view<O: OffsetSizeTrait, C: Array + Copy>(ledger: &mut Ledger, bo
     ensures leads { λ r. ⌜ Cases r (λ h. (((k : ℕ) → Within ((listSeen (now (a .entry) .slots) (C·Array .entry (now (a .entry) .child)) (listRange (O·OffsetSizeTrait .width) (now (a .entry) .place) (now (a .entry) .slots) (C·Array .size (now (a .entry) .child))) (listWords (O·OffsetSizeTrait .width) (now (a .entry) .place) (now (a .entry) .slots)) (C·Array .spans (now (a .entry) .child))) .rests) k → k < 8 * accountsOf (now (ledger .entry)) .end) → TurnLeads (listSeen (now (a .entry) .slots) (C·Array .entry (now (a .entry) .child)) (listRange (O·OffsetSizeTrait .width) (now (a .entry) .place) (now (a .entry) .slots) (C·Array .size (now (a .entry) .child))) (listWords (O·OffsetSizeTrait .width) (now (a .entry) .place) (now (a .entry) .slots)) (C·Array .spans (now (a .entry) .child))) (accountsOf (now (ledger .entry)) .end) (now (body .entry)) (listSeen (h .slots) (C·Array .entry (h .child)) (viewRange (O·OffsetSizeTrait .width) (h .starts) (h .sizes) (h .slots) (C·Array .size (h .child))) (viewWords (O·OffsetSizeTrait .width) (h .starts) (h .sizes) (h .slots)) (C·Array .spans (h .child))) (accountsOf (now (ledger .exit)) .end) (now (body .exit)))) (λ _. StopLeads) ⌝ }
 {
     let (starts, sizes) = turned(ledger, body, a)?;
+    Ok(GenericListViewArray { starts, sizes, slots: fresh(a.slots), field: a.field, child: a.child, kind: PhantomData })
+}
+
+// Whether starts and sizes of a fixed list are offsets of the kind.
+fn starts_small<O: OffsetSizeTrait>(size: u32, len: u64) -> bool
+    ensures { λ r. ⌜ r ≡ startsSmall (O·OffsetSizeTrait .width) size len ⌝ }
+{
+    if len == 0 {
+        return true;
+    }
+    let largest = O::max_offset() as u128;
+    (len - 1) as u128 * size as u128 <= largest && size as u128 <= largest
+}
+
+// The tests of a conversion of a fixed list to a view.
+fn check_fixed<O: OffsetSizeTrait, C: Array + Copy>(ledger: &Ledger, body: &[u8], a: &FixedSizeListArray<C>) -> Result<(), Stop>
+    ensures { λ r. ⌜ r ≡ (fixedTests (accountsOf (now (ledger .entry))) (now (body .entry)) (allOk (λ i. findReply (now (a .entry) .slots .len) (λ j. []) (fixedRange (now (a .entry) .size) (C·Array .size (now (a .entry) .child))) (now (body .entry)) i) (now (a .entry) .slots .len)) (startsSmall (O·OffsetSizeTrait .width) (now (a .entry) .size) (now (a .entry) .slots .len))) ⌝ }
+{
+    if body.len() as u64 != ledger.length() {
+        return Err(Stop::new(Reason::BodyLengthDiffers));
+    }
+    if !all_ranges(body, a) {
+        return Err(Stop::new(Reason::NoRange));
+    }
+    if !starts_small::<O>(a.size, a.slots.len) {
+        return Err(Stop::new(Reason::TooLarge));
+    }
+    Ok(())
+}
+
+fn fixed_turned<O: OffsetSizeTrait, C: Array + Copy>(ledger: &mut Ledger, body: &mut [u8], a: &FixedSizeListArray<C>) -> Result<(u64, u64), Stop>
+    ensures answers { λ r. ⌜ r ≡ (andThen (fixedTests (accountsOf (now (ledger .entry))) (now (body .entry)) (allOk (λ i. findReply (now (a .entry) .slots .len) (λ j. []) (fixedRange (now (a .entry) .size) (C·Array .size (now (a .entry) .child))) (now (body .entry)) i) (now (a .entry) .slots .len)) (startsSmall (O·OffsetSizeTrait .width) (now (a .entry) .size) (now (a .entry) .slots .len))) (reservation2 (accountsOf (now (ledger .entry))) (O·OffsetSizeTrait .width * now (a .entry) .slots .len) (O·OffsetSizeTrait .width * now (a .entry) .slots .len))) ⌝ }
+    ensures account { λ r. ⌜ accountsOf (now (ledger .exit)) ≡ cond (isOk r) (reserved2 (accountsOf (now (ledger .entry))) (O·OffsetSizeTrait .width * now (a .entry) .slots .len) (O·OffsetSizeTrait .width * now (a .entry) .slots .len)) (accountsOf (now (ledger .entry))) ⌝ }
+    ensures leaves { λ r. ⌜ now (body .exit) ≡ cond (isOk r) (viewsPut (O·OffsetSizeTrait .width) (λ b i. findReply (now (a .entry) .slots .len) (λ j. []) (fixedRange (now (a .entry) .size) (C·Array .size (now (a .entry) .child))) b i) (aligned ((accountsOf (now (ledger .entry))) .end)) (second (accountsOf (now (ledger .entry))) (O·OffsetSizeTrait .width * now (a .entry) .slots .len)) (now (body .entry)) (now (a .entry) .slots .len)) (now (body .entry)) ⌝ }
+{
+    check_fixed::<O, C>(ledger, body, a)?;
+    let bytes = O::width() as u128 * a.slots.len as u128;
+    let (starts, sizes) = ledger.reserve_two(bytes, bytes)?;
+    let _ = write_views::<O, FixedSizeListArray<C>>(body, a, starts, sizes);
+    Ok((starts, sizes))
+}
+
+// A view of a fixed list: start i is i × size, every size the fixed size; the same marks, child and field.
+pub fn fixed_to_view<O: OffsetSizeTrait, C: Array + Copy>(ledger: &mut Ledger, body: &mut [u8], a: &FixedSizeListArray<C>) -> Result<GenericListViewArray<O, C>, Stop>
+    ensures answers { λ r. ⌜ r ≡ made (λ p. record { starts = p .0; sizes = p .1; slots = freshSlots (now (a .entry) .slots); field = now (a .entry) .field; child = now (a .entry) .child; kind = record {} }) (andThen (fixedTests (accountsOf (now (ledger .entry))) (now (body .entry)) (allOk (λ i. findReply (now (a .entry) .slots .len) (λ j. []) (fixedRange (now (a .entry) .size) (C·Array .size (now (a .entry) .child))) (now (body .entry)) i) (now (a .entry) .slots .len)) (startsSmall (O·OffsetSizeTrait .width) (now (a .entry) .size) (now (a .entry) .slots .len))) (reservation2 (accountsOf (now (ledger .entry))) (O·OffsetSizeTrait .width * now (a .entry) .slots .len) (O·OffsetSizeTrait .width * now (a .entry) .slots .len))) ⌝ }
+    ensures account { λ r. ⌜ accountsOf (now (ledger .exit)) ≡ cond (isOk r) (reserved2 (accountsOf (now (ledger .entry))) (O·OffsetSizeTrait .width * now (a .entry) .slots .len) (O·OffsetSizeTrait .width * now (a .entry) .slots .len)) (accountsOf (now (ledger .entry))) ⌝ }
+    ensures leaves { λ r. ⌜ now (body .exit) ≡ cond (isOk r) (viewsPut (O·OffsetSizeTrait .width) (λ b i. findReply (now (a .entry) .slots .len) (λ j. []) (fixedRange (now (a .entry) .size) (C·Array .size (now (a .entry) .child))) b i) (aligned ((accountsOf (now (ledger .entry))) .end)) (second (accountsOf (now (ledger .entry))) (O·OffsetSizeTrait .width * now (a .entry) .slots .len)) (now (body .entry)) (now (a .entry) .slots .len)) (now (body .entry)) ⌝ }
+    ensures leads { λ r. ⌜ Cases r (λ h. (((k : ℕ) → Within ((listSeen (now (a .entry) .slots) (C·Array .entry (now (a .entry) .child)) (λ b. (fixedRange (now (a .entry) .size) (C·Array .size (now (a .entry) .child)))) [] (C·Array .spans (now (a .entry) .child))) .rests) k → k < 8 * accountsOf (now (ledger .entry)) .end) → TurnLeads (listSeen (now (a .entry) .slots) (C·Array .entry (now (a .entry) .child)) (λ b. (fixedRange (now (a .entry) .size) (C·Array .size (now (a .entry) .child)))) [] (C·Array .spans (now (a .entry) .child))) (accountsOf (now (ledger .entry)) .end) (now (body .entry)) (listSeen (h .slots) (C·Array .entry (h .child)) (viewRange (O·OffsetSizeTrait .width) (h .starts) (h .sizes) (h .slots) (C·Array .size (h .child))) (viewWords (O·OffsetSizeTrait .width) (h .starts) (h .sizes) (h .slots)) (C·Array .spans (h .child))) (accountsOf (now (ledger .exit)) .end) (now (body .exit)))) (λ _. StopLeads) ⌝ }
+{
+    let (starts, sizes) = fixed_turned::<O, C>(ledger, body, a)?;
     Ok(GenericListViewArray { starts, sizes, slots: fresh(a.slots), field: a.field, child: a.child, kind: PhantomData })
 }
