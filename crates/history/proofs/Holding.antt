@@ -8,7 +8,7 @@ use native.Mathlib.Decide.{decLe}
 use Rattle.layout.specs.Bits.{bitAt}
 use Rattle.history.specs.Entry.{Slot}
 use Rattle.layout.specs.Spans.{Span, Within, Alike}
-use Rattle.history.specs.Moments.{Handle, Framed, Builder, Traced, distance, slotsShown, Moment, In, Settled, Fresh, FreshFree, HandleBit, First, Follows, Made, Next, Opened, Run, Shown, DistanceLaw, Reached, RunsGoOn}
+use Rattle.history.specs.Moments.{Handle, Framed, Builder, Traced, distance, slotsShown, Moment, In, Settled, Fresh, FreshFree, HandleBit, First, Follows, Made, Next, Opened, Run, Shown, DistanceLaw, Reached, RunsGoOn, GivenOut}
 use mathlib.Core.Bool.{true, false, cond}
 use lib.Dec.{leb}
 use borrow.Author.Tests.{le-leb}
@@ -188,3 +188,8 @@ runs-go-on m m' q s = (g, calls + 1, (start, steps), longer-new h calls m')
     last = rw (longer-old h calls m' calls (omega arith), longer-new h calls m') (subst (λ z. Next z m') (sym (q .3)) s)
     steps : (t : ℕ) → t < calls + 1 → Next (g t) (g (t + 1))
     steps t l = elim (decLe (t + 1) calls) [ yes a ↦ inside t (omega arith) | no a ↦ let e : calls ≡ t = omega arith in subst (λ u. Next (g u) (g (u + 1))) e last ]
+
+pub given-out : GivenOut
+given-out m q x p k h =
+    subst (λ (z : Moment). k < 8 * z .used) (q .3)
+    (run-sound (q .0) (q .1) (q .2) (q .1) (omega arith) .kept x (subst (λ (z : Moment). In x (z .handles)) (sym (q .3)) p) .settled k h .0)

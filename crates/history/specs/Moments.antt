@@ -143,3 +143,7 @@ Reached m = (h : ℕ → Moment) × (calls : ℕ) × Run h calls × (h calls ≡
 -- whatever a list of calls leads to, one call more leads on from there
 abbrev pub RunsGoOn : Type 0
 RunsGoOn = (m m' : Moment) → Reached m → Next m m' → Reached m'
+
+-- in a moment that a run leads to, every handle rests on bits that are loaded or reserved
+abbrev pub GivenOut : Type 0
+GivenOut = (m : Moment) → Reached m → (x : Traced) → In x (m .handles) → (k : ℕ) → Within (x .handle .rests) k → k < 8 * m .used

@@ -1,4 +1,4 @@
-use Rattle.history.proofs.Holding.{distance-law, runs-go-on}
+use Rattle.history.proofs.Holding.{distance-law, runs-go-on, given-out}
 use Rattle.history.proofs.Leading.{stop-leads, step-leads, turn-leads, new-leads, snapshot-leads, finish-leads}
 use Rattle.history.proofs.runs_hold.Needs as need
 
@@ -7,4 +7,5 @@ returns c =
     record
     { distance = distance-law
     ; goes-on = runs-go-on
+    ; given-out = given-out
     ; calls = (stop-leads, step-leads, turn-leads, new-leads, λ s b r f w. (snapshot-leads s b r f w, finish-leads s b r f w)) }
