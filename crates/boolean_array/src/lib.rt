@@ -1,3 +1,5 @@
+#![tactic(auto)]
+
 ghost use Rattle.std.specs.Prelude.{◌≡◌, ℕ, ◌+◌, ◌≤◌, [], Some, MatchResult, refl};
 ghost use Rattle.layout.specs.Bits.{bit_set};
 ghost use Rattle.history.specs.Calls.{TrialLeads, StopLeads};

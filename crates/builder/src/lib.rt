@@ -1,3 +1,5 @@
+#![tactic(auto)]
+
 pub mod builder;
 pub mod leaf;
 pub mod slots;

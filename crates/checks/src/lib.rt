@@ -1,3 +1,5 @@
+#![tactic(auto)]
+
 ghost use Rattle.std.specs.Prelude.{◌≡◌, ℕ};
 ghost use Rattle.form.specs.Forms.{layer_reply};
 ghost use Rattle.history.specs.Entry.{is_absent};

@@ -1,3 +1,5 @@
+#![tactic(auto)]
+
 ghost use Rattle.std.specs.Prelude.{◌≡◌, ℕ, ◌+◌, ◌*◌, ◌<◌, ◌≤◌, true, [], length, is_ok, if◌then◌else◌, Ok, MatchResult};
 ghost use Rattle.history.specs.Entry.{is_absent};
 ghost use Rattle.layout.specs.Spans.{in_body};

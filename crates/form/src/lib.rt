@@ -1,3 +1,5 @@
+#![tactic(auto)]
+
 ghost use Rattle.std.specs.Prelude.{◌≡◌, ◌%◌, length, ◌==◌};
 ghost use Rattle.form.specs.Examples.{Builds, examples, ExamplesHold};
 ghost use Rattle.form.specs.Forms.{code_in, digit_count, fixed_form, fixed_reply, layer_form, layer_reply, leaf_form};

@@ -1,4 +1,6 @@
 // Tests of what all arrays share, at the edges: ledgers, forms, stops and cuts.
+#![tactic(auto)]
+
 #[cfg(test)]
 mod cuts;
 #[cfg(test)]

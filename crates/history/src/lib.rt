@@ -1,3 +1,5 @@
+#![tactic(auto)]
+
 ghost use Rattle.std.specs.Prelude.{◌≡◌};
 ghost use Rattle.history.specs.Moments.{DistanceLaw, RunsGoOn, GivenOut};
 ghost use Rattle.history.specs.Calls.{CallsLead};

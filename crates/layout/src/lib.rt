@@ -1,4 +1,6 @@
 // Bits, marks and words on a body of bytes, by the Arrow columnar format.
+#![tactic(auto)]
+
 pub mod bits;
 pub mod marks;
 pub mod words;

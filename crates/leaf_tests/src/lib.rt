@@ -1,4 +1,6 @@
 // Tests of the leaves at their edges: trials and questions.
+#![tactic(auto)]
+
 ghost use Rattle.std.specs.Prelude.{◌≡◌, Some, None, MatchResult};
 ghost use Rattle.ledger.specs.Stops.{number_of};
 

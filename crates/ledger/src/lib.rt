@@ -1,3 +1,5 @@
+#![tactic(auto)]
+
 ghost use Rattle.std.specs.Prelude.{◌≡◌, MatchResult};
 ghost use Rattle.history.specs.Calls.{OpenLeads, ReserveLeads, StopLeads};
 ghost use Rattle.ledger.specs.Ledger.{accounts_of, Opening, reservation, reserved, reservation2, reserved2};

@@ -1,3 +1,5 @@
+#![tactic(auto)]
+
 ghost use Rattle.std.specs.Prelude.{◌≡◌, ℕ, ◌+◌, ◌*◌, ◌/◌, ◌<◌, ◌≤◌, List, length, refl};
 ghost use Rattle.std.proofs.Common.{ap, rules};
 ghost use Rattle.form.specs.Forms.{layer_form};

@@ -1,4 +1,5 @@
 // Tests of offset lists, views, fixed lists and nests at their edges: trials, questions and cuts.
+#![tactic(auto)]
 
 #[cfg(test)]
 mod fixed;

@@ -1,3 +1,5 @@
+#![tactic(auto)]
+
 ghost use Rattle.std.specs.Prelude.{◌≡◌, ℕ, ◌+◌, ◌*◌, ◌/◌, ◌<◌, ◌≤◌, List, length, nat_le, refl};
 ghost use Rattle.std.proofs.Common.{ap, rules};
 ghost use Rattle.layout.specs.Words.{signed_reply};

@@ -1,3 +1,5 @@
+#![tactic(auto)]
+
 ghost use Rattle.std.specs.Prelude.{◌≡◌, ℕ, ◌+◌, ◌≤◌, true, [], MatchResult};
 ghost use Rattle.history.specs.Entry.Entry.{absent};
 ghost use Rattle.history.specs.Calls.{TrialLeads, StopLeads};

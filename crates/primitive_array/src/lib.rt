@@ -1,3 +1,5 @@
+#![tactic(auto)]
+
 ghost use Rattle.std.specs.Prelude.{◌≡◌, ℕ, ◌+◌, ◌*◌, ◌≤◌, [], pos, Some, MatchResult, refl};
 ghost use Rattle.std.proofs.Common.{ap, rules};
 ghost use Rattle.history.specs.Entry.Entry.{number};

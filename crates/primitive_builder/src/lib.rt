@@ -1,3 +1,5 @@
+#![tactic(auto)]
+
 ghost use Rattle.std.specs.Prelude.{◌≡◌, ℕ, ◌+◌, ◌*◌, ◌%◌, ◌^◌, ◌<◌, ◌≤◌, Bool, true, false, [], map, ℤ, is_some, Ok};
 ghost use Rattle.std.proofs.Common.{ap, subst, rules};
 ghost use Rattle.form.specs.Forms.{leaf_form};

@@ -1,4 +1,6 @@
 // The rows of a builder: bits and words written one behind the other into reserved places.
+#![tactic(auto)]
+
 ghost use Rattle.std.specs.Prelude.{◌≡◌, ℕ, ◌+◌, ◌*◌, ◌/◌, ◌<◌, ◌≤◌, length, slice_index, slice_set};
 ghost use Rattle.rows.specs.Rows.{bit_put, offset_put, nulls_at, with_bit, room_reply};
 

@@ -1,3 +1,5 @@
+#![tactic(auto)]
+
 ghost use Rattle.std.specs.Prelude.{◌≡◌, ℕ, ◌+◌, ◌-◌, Bool, true, false, not, ◌∷◌, IfOk};
 ghost use Rattle.history.specs.Entry.{entries_from};
 ghost use Rattle.history.specs.Entry.Entry.{window};

@@ -1,3 +1,5 @@
+#![tactic(auto)]
+
 pub mod null_buffer;
 pub mod slot_calls;
 pub mod slots;

@@ -12,6 +12,8 @@
 // START and N are numbers from 0 to 18446744073709551615. A block or a cut that is taken is shown: how many slots it
 // has, how many null marks, and the slots' numbers in order, `-` where the mark is null. A line that is stopped, or not
 // understood, changes nothing, and the run goes on. The last line of the report counts the lines.
+#![tactic(auto)]
+
 mod block;
 mod command;
 mod fault;
