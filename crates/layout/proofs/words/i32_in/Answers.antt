@@ -9,4 +9,4 @@ returns c =
     let b = c.args.body.now in
     let p = c.args.p in
     let f : SFits w32 c.from_le_bytes.result = search rules in
-    to_z-of_z w32 c.from_le_bytes.result f ∙ c.from_le_bytes.ensures ∙ ap (to_z w32) (sym (word_4 b p c.type-inv.body)) ∙ signed_32 (word_at b p 4)
+    to_z-of_z w32 c.from_le_bytes.result f ∙ c.from_le_bytes.ensures ∙ ap (to_z w32) (sym (word_4 b p c.type_inv.body)) ∙ signed_32 (word_at b p 4)

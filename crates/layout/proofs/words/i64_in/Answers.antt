@@ -9,4 +9,4 @@ returns c =
     let b = c.args.body.now in
     let p = c.args.p in
     let f : SFits w64 c.from_le_bytes.result = search rules in
-    to_z-of_z w64 c.from_le_bytes.result f ∙ c.from_le_bytes.ensures ∙ ap (to_z w64) (sym (word_8 b p c.type-inv.body)) ∙ signed_64 (word_at b p 8)
+    to_z-of_z w64 c.from_le_bytes.result f ∙ c.from_le_bytes.ensures ∙ ap (to_z w64) (sym (word_8 b p c.type_inv.body)) ∙ signed_64 (word_at b p 8)
