@@ -9,5 +9,5 @@ returns c =
     let n = c.args.size in
     let h : n < 2 ^ 32 = omega arith in
     let l : 9 + digit_count f ≤ places = omega (arith, c.digits.ensures.answers) in
-    let a : Ok c.with-fixed.result ≡ fixed_reply f n = rw (le-leb (9 + digit_count f) places l) (ap Ok c.with-fixed.ensures) in
+    let a : Ok c.with_fixed.result ≡ fixed_reply f n = rw (le-leb (9 + digit_count f) places l) (ap Ok c.with_fixed.ensures) in
     record { answers = a; extends = fixed_extends n f _ h a }

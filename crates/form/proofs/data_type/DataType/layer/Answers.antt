@@ -8,5 +8,5 @@ returns c =
     let f = c.args.self in
     let d = c.args.digit in
     let l : 1 + digit_count f ≤ places = omega (arith, c.digits.ensures.answers) in
-    let a : Ok c.with-layer.result ≡ layer_reply f d = rw (le-leb (1 + digit_count f) places l) (ap Ok c.with-layer.ensures) in
+    let a : Ok c.with_layer.result ≡ layer_reply f d = rw (le-leb (1 + digit_count f) places l) (ap Ok c.with_layer.ensures) in
     record { answers = a; extends = layer_extends d f _ a }

@@ -10,4 +10,4 @@ returns c =
     let n = c.args.n in
     let h : a + n ≤ s.len = omega arith in
     rw (le-leb (a + n) s.len h)
-    (ap Ok (same_slots _ (slots_cut s a n) (sym (cut_first s a n h)) (sym (cut_len s a n h)) (c.marks-from.ensures ∙ sym (cut_slots s a n h))))
+    (ap Ok (same_slots _ (slots_cut s a n) (sym (cut_first s a n h)) (sym (cut_len s a n h)) (c.marks_from.ensures ∙ sym (cut_slots s a n h))))

@@ -10,4 +10,4 @@ returns c =
     let nulls = c.args.nulls in
     let h : len ≤ length_limit = omega arith in
     rw (le-leb len length_limit h)
-    (ap Ok (same_slots _ (new_slots len nulls) refl (sym (new_len len nulls h)) c.marks-at.ensures))
+    (ap Ok (same_slots _ (new_slots len nulls) refl (sym (new_len len nulls h)) c.marks_at.ensures))
