@@ -11,4 +11,4 @@ returns c =
     let m : bit_and v (2 ^ 31 - 1) ≡ v % 2 ^ 31 = and_mask v 31 in
     let l : bit_and v (2 ^ 31 - 1) < 2 ^ 31 = omega arith in
     let e : word_of 4 (to_z w32 (bit_and v (2 ^ 31 - 1))) ≡ v % 2 ^ 31 = ap (word_of 4) (to_z_pos w32 (bit_and v (2 ^ 31 - 1)) l) ∙ m in
-    record { fits = search rules; leaves = c.put-i32.ensures.leaves ∙ ap (written 4 c.args.body.now c.args.at) e }
+    record { fits = search rules; leaves = c.put_i32.ensures.leaves ∙ ap (written 4 c.args.body.now c.args.at) e }

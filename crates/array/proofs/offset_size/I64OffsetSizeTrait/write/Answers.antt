@@ -11,4 +11,4 @@ returns c =
     let m : bit_and v (2 ^ 63 - 1) ≡ v % 2 ^ 63 = and_mask v 63 in
     let l : bit_and v (2 ^ 63 - 1) < 2 ^ 63 = omega arith in
     let e : word_of 8 (to_z w64 (bit_and v (2 ^ 63 - 1))) ≡ v % 2 ^ 63 = ap (word_of 8) (to_z_pos w64 (bit_and v (2 ^ 63 - 1)) l) ∙ m in
-    record { fits = search rules; leaves = c.put-i64.ensures.leaves ∙ ap (written 8 c.args.body.now c.args.at) e }
+    record { fits = search rules; leaves = c.put_i64.ensures.leaves ∙ ap (written 8 c.args.body.now c.args.at) e }
