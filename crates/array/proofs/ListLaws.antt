@@ -1,14 +1,10 @@
-use Rattle.std.proofs.Common.{◌≡◌, ℕ, zero, suc, ◌+◌, ◌-◌, ◌*◌, ◌<◌, ◌≤◌, Bool, true, false, cond, eqb, ltb, leb, ◌⊎◌, List, [], ◌∷◌, ◌++◌, ℤ, pos, negsuc, Some, None, Ok, Err, Option, Result, sym, refl, ap, ◌∙◌, inl, inr, ⊎_elim, arith, ltb-true, lt-ltb, le-leb}
-use Rattle.ledger.specs.declared.stop.Stop.{Stop}
+use Rattle.std.proofs.Common.{◌≡◌, ℕ, zero, suc, ◌+◌, ◌-◌, ◌<◌, ◌≤◌, Bool, true, false, cond, eqb, ltb, leb, List, [], ◌++◌, ℤ, pos, negsuc, Some, None, Ok, Err, Option, sym, refl, ap, ◌∙◌, ⊎_elim, arith, ltb-true, lt-ltb, le-leb}
 use Rattle.ledger.specs.declared.stop.Reason.TheVariants.{BeyondBytes, IndexPastEnd}
 use Rattle.ledger.specs.Stops.{stopped}
 use Rattle.layout.specs.Spans.{Span, Within, Alike, in_body}
-use Rattle.layout.specs.Marks.{mark_spans}
 use Rattle.layout.specs.Needs.{Needed}
-use Rattle.layout.specs.declared.marks.Marks.{Marks}
 use Rattle.layout.proofs.SpanLaws.{within_l, within_r, within_either, mark_alike_lem}
-use Rattle.layout.proofs.NeedLaws.{needed_into}
-use Rattle.history.specs.Entry.{Entry, Entries, is_absent, entries_from}
+use Rattle.history.specs.Entry.{Entry, is_absent, entries_from}
 use Rattle.history.specs.Entry.Entry.{window}
 use Rattle.history.specs.Moments.{Framed}
 use Rattle.history.proofs.Leading.{seen_framed}
@@ -17,7 +13,7 @@ use Rattle.slots.specs.Slots.{slot_mark, slot_need, slot_spans, slots_cut}
 use Rattle.slots.specs.Replies.{find_reply, found, slice_reply}
 use Rattle.slots.proofs.Leaves.{absence_needed, slots_within}
 use Rattle.slots.proofs.SameSlots.{cut_len}
-use Rattle.array.specs.Windows.{Range, Inside, window_in, entry_in}
+use Rattle.array.specs.Windows.{Range, Inside, window_in}
 use Rattle.array.specs.Lists.{list_shown, list_entry, list_spans, list_seen, slice_in, range_numbers, whole_window}
 
 pub entries_shift : (f g : ℕ → Entry) (a d n : ℕ) → ((i : ℕ) → i < n → f (a + i) ≡ g (d + i)) → entries_from f a n ≡ entries_from g d n

@@ -1,4 +1,4 @@
-use Rattle.std.specs.Prelude.{ℕ, ◌-◌, Bool, cond, List, [], ◌++◌, ℤ, pos, Some, None, Option, ◌==◌}
+use Rattle.std.specs.Prelude.{ℕ, ◌-◌, cond, List, [], ◌++◌, ℤ, pos, Some, None, Option, ◌==◌}
 use Rattle.layout.specs.Spans.{Span}
 use Rattle.history.specs.Entry.{Entry, entries_from}
 use Rattle.history.specs.Entry.Entry.{window}

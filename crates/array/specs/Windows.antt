@@ -1,5 +1,5 @@
-use Rattle.std.specs.Prelude.{ℕ, ◌-◌, ◌≤◌, Bool, true, false, cond, Some, None, Option}
-use Rattle.history.specs.Entry.{Entry, Entries, entries_from}
+use Rattle.std.specs.Prelude.{ℕ, ◌-◌, ◌≤◌, Bool, cond, Some, None, Option}
+use Rattle.history.specs.Entry.{Entry, entries_from}
 use Rattle.history.specs.Entry.Entry.{absent, window}
 use Rattle.history.specs.Entry.Entries.{none}
 

@@ -1,11 +1,7 @@
 -- Digits that are shifted in front of a code.
-use Rattle.std.proofs.Common.{◌≡◌, ℕ, ◌+◌, ◌-◌, ◌*◌, ◌/◌, ◌%◌, ◌^◌, ◌<◌, ◌≤◌, leb, Ok, Result, sym, ap, ◌∙◌, le_refl}
+use Rattle.std.proofs.Common.{◌≡◌, ℕ, ◌+◌, ◌*◌, ◌/◌, ◌%◌, ◌^◌, ◌<◌, le_refl}
 use lib.Bits.{bit_or}
 use Rattle.std.proofs.lemmas.Nat.{or_shifted, shl_whole, shr_below}
-use Rattle.std.proofs.lemmas.Bool.{cond-true, le-leb}
-use Rattle.ledger.specs.declared.stop.Stop.{Stop}
-use Rattle.form.specs.declared.data_type.DataType.{DataType}
-use Rattle.form.specs.Forms.{places, code_in, with_code, digit_count, in_front}
 
 -- a bits of n over b bits of f
 pub shifted : (a b n f : ℕ) → n < 2 ^ a → f < 2 ^ (b + a) → bit_or (n * 2 ^ b % 2 ^ (a + b)) (f / 2 ^ a) ≡ n * 2 ^ b + f / 2 ^ a

@@ -1,15 +1,13 @@
 use mathlib.Core.Path.{◌≡◌, refl, sym, ap, ◌∙◌, subst}
-use mathlib.Core.List.{List, [], ◌∷◌}
-use mathlib.Core.Logic.{◌⊎◌, inl, inr, ⊎_elim}
+use mathlib.Core.List.{◌∷◌}
+use mathlib.Core.Logic.{⊎_elim}
 use Prim.Native.Nat.{ℕ, zero, suc, ◌+◌, ◌*◌, ◌<◌, ◌≤◌}
 use native.Mathlib.Numerals.{add-one}
 use native.Mathlib.Omega.{arith}
 use native.Mathlib.Decide.{dec_le}
-use Rattle.layout.specs.Bits.{bit_at}
-use Rattle.history.specs.Entry.{Slot}
-use Rattle.layout.specs.Spans.{Span, Within, Alike}
-use Rattle.history.specs.Moments.{Handle, Framed, Builder, Traced, distance, slots_shown, Moment, In, Settled, Fresh, FreshFree, HandleBit, First, Follows, Made, Next, Opened, Run, Shown, DistanceLaw, Reached, RunsGoOn, GivenOut}
-use mathlib.Core.Bool.{true, false, cond}
+use Rattle.layout.specs.Spans.{Within}
+use Rattle.history.specs.Moments.{Framed, Builder, Traced, distance, Moment, In, Settled, FreshFree, First, Follows, Made, Next, Opened, Run, Shown, DistanceLaw, RunsGoOn, GivenOut}
+use mathlib.Core.Bool.{false, cond}
 use lib.Dec.{leb}
 use borrow.Author.Tests.{le-leb}
 

@@ -1,18 +1,16 @@
 use mathlib.Core.Path.{◌≡◌, refl, sym, ap, ◌∙◌, subst}
-use mathlib.Core.List.{List, [], ◌∷◌}
+use mathlib.Core.List.{List, []}
 use mathlib.Core.Logic.{◌⊎◌, inl, inr, ⊎_elim}
-use mathlib.Core.Bool.{Bool, true, false, cond}
-use Prim.Native.Nat.{ℕ, zero, suc, ◌+◌, ◌*◌, ◌<◌, ◌≤◌}
-use native.Mathlib.Numerals.{add-one}
-use native.Mathlib.Nat.{zero-add}
+use mathlib.Core.Bool.{Bool, true, false}
+use Prim.Native.Nat.{ℕ, ◌+◌, ◌*◌, ◌<◌, ◌≤◌}
 use native.Mathlib.Omega.{arith}
-use native.Mathlib.Decide.{ℕ_discrete, dec_le}
+use native.Mathlib.Decide.{ℕ_discrete}
 use lib.Dec.{eqb}
 use lib.ListN.{length}
 use Rattle.layout.specs.Bits.{bit_at}
-use Rattle.history.specs.Entry.{Slot, Entry}
+use Rattle.history.specs.Entry.{Entry}
 use Rattle.layout.specs.Spans.{Span, Within, Alike}
-use Rattle.history.specs.Moments.{Handle, Framed, Builder, Traced, distance, slots_shown, Moment, In, HandleBit, Opened, Reached, Settled, Fresh, First, Follows, Made, Next}
+use Rattle.history.specs.Moments.{Handle, Framed, Builder, Traced, Moment, Fresh, First, Follows, Made, Next}
 use Rattle.layout.proofs.SpanLaws.{within?}
 use Rattle.history.specs.Calls.{seen, with_handle, with_builder, put, as_first, as_cut, as_same, StopLeads, CutLeads, TrialLeads, StepLeads, SnapshotLeads, FinishLeads, ReserveLeads, OpenLeads, opened, Stepped, TurnLeads, Turned, NewLeads, Built, with_ledger}
 

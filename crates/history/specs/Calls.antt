@@ -1,7 +1,7 @@
-use Rattle.std.specs.Prelude.{◌≡◌, List, [], ◌∷◌, ◌⊎◌, Bool, cond, eqb, length, ℕ, ◌+◌, ◌*◌, ◌<◌, ◌≤◌}
+use Rattle.std.specs.Prelude.{◌≡◌, List, [], ◌∷◌, ◌⊎◌, Bool, cond, eqb, length, ℕ, ◌*◌, ◌<◌, ◌≤◌}
 use Rattle.layout.specs.Bits.{bit_at}
-use Rattle.history.specs.Entry.{Slot, Entry}
-use Rattle.layout.specs.Spans.{Span, Within, Alike}
+use Rattle.history.specs.Entry.{Entry}
+use Rattle.layout.specs.Spans.{Span, Within}
 use Rattle.history.specs.Moments.{Handle, Framed, Builder, Traced, Moment, In, HandleBit, Next, Reached}
 
 -- what is seen of an array

@@ -1,11 +1,11 @@
-use Rattle.std.proofs.Common.{◌≡◌, ℕ, zero, suc, ◌+◌, ◌-◌, ◌*◌, ◌<◌, ◌≤◌, max, Bool, true, false, cond, not, eqb, ltb, leb, ◌⊎◌, List, [], ◌∷◌, ◌++◌, length, Some, None, Option, sym, refl, ap, ◌∙◌, inl, inr, ⊎_elim, arith}
+use Rattle.std.proofs.Common.{◌≡◌, ℕ, zero, suc, ◌+◌, ◌*◌, ◌<◌, max, Bool, true, false, cond, not, eqb, List, [], ◌∷◌, Some, None, Option, sym, refl, ap, ◌∙◌, inl, ⊎_elim, arith}
 use native.Mathlib.Decide.{ℕ_discrete}
 use Rattle.layout.specs.declared.marks.Marks.{Marks}
 use Rattle.layout.specs.Bits.{bit_at, bit_set, zeros_from}
 use Rattle.layout.specs.Spans.{Span, span, Within, Alike, reach_of}
-use Rattle.layout.specs.Marks.{mark_of, mark_bit, mark_need_of, nulls_of}
+use Rattle.layout.specs.Marks.{mark_of, mark_bit, mark_need_of}
 use Rattle.layout.specs.Needs.{Sways, Needed, each, counts}
-use Rattle.layout.proofs.SpanLaws.{within?, within_l, within_r, within_either, reach_sub, reach-++}
+use Rattle.layout.proofs.SpanLaws.{within?, within_l, within_r, within_either, reach_sub}
 use Rattle.layout.proofs.OneBit.{one_bit, one_there, no_bit, one_else}
 
 -- a bit that sways f is among any bits that are enough for f

@@ -1,8 +1,7 @@
-use Rattle.std.proofs.Common.{◌≡◌, ℕ, zero, suc, ◌+◌, ◌-◌, ◌*◌, ◌<◌, ◌≤◌, max, Bool, true, false, cond, eqb, ltb, leb, ◌⊎◌, List, [], ◌∷◌, ◌++◌, length, Some, None, Option, sym, refl, ap, ◌∙◌, inl, inr, ⊎_elim, arith}
+use Rattle.std.proofs.Common.{◌≡◌, ℕ, ◌+◌, ◌-◌, ◌*◌, ◌<◌, ◌≤◌, max, cond, eqb, ltb, ◌⊎◌, List, [], ◌∷◌, ◌++◌, Some, None, Option, refl, ap, inl, inr, ⊎_elim, arith}
 use native.Mathlib.Decide.{dec_le}
 use Rattle.layout.specs.declared.marks.Marks.{Marks}
-use Rattle.layout.specs.Bits.{bit_at}
-use Rattle.layout.specs.Spans.{Span, span, Within, reach_of, Alike}
+use Rattle.layout.specs.Spans.{Span, Within, reach_of, Alike}
 use Rattle.layout.specs.Marks.{mark_of, mark_bit, mark_spans, marks_from}
 
 pub within_l : (ss ts : List Span) (k : ℕ) → Within ss k → Within (ss ++ ts) k

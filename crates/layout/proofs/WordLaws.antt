@@ -1,12 +1,10 @@
-use Rattle.std.proofs.Common.{◌≡◌, ℕ, zero, suc, ◌+◌, ◌-◌, ◌*◌, ◌/◌, ◌%◌, ◌^◌, ◌<◌, ◌≤◌, Bool, true, false, cond, not, eqb, ltb, ◌⊎◌, List, [], ◌∷◌, length, get_or, set, ℤ, pos, negsuc, ◌+ℤ◌, Some, sym, refl, ap, ◌∙◌, inl, inr, add-zero, add_assoc, mod-eq_of_lt, mul_assoc, mul_comm, pow-suc, mul-add, add-one, arith, length-set, get_or-set_other, get_or-set_same}
+use Rattle.std.proofs.Common.{◌≡◌, ℕ, zero, suc, ◌+◌, ◌-◌, ◌*◌, ◌/◌, ◌%◌, ◌^◌, ◌<◌, ◌≤◌, true, false, not, eqb, ltb, ◌⊎◌, List, [], ◌∷◌, length, get_or, set, sym, refl, ap, ◌∙◌, inl, inr, add-zero, mod-eq_of_lt, mul_assoc, mul_comm, pow-suc, add-one, arith, length-set, get_or-set_other, get_or-set_same}
 use lib.Arith.{mod-mul}
 use lib.Bits.{bit_and, and_zero_r}
 use Rattle.std.proofs.lemmas.Nat.{and_shr, and_mod, and_mask, shr_high, shr_split, mod_low, pow_pos}
 use Rattle.std.proofs.lemmas.Int.{ints}
-use Rattle.layout.specs.declared.marks.Marks.{Marks}
 use Rattle.layout.specs.Bits.{bit_at}
-use Rattle.layout.specs.Marks.{mark_of}
-use Rattle.layout.specs.Words.{byte_at, word_at, signed_of, word_of, bytes_of, put_bytes, put_word}
+use Rattle.layout.specs.Words.{byte_at, word_at, signed_of, bytes_of, put_bytes, put_word}
 use Rattle.layout.specs.Laws.{sum_below, ValidWhereBitSet, WordIsSum, TwosComplement, SignedIsRead, WrittenIsRead, OthersStay}
 
 -- what written bytes leave

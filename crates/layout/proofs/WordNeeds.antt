@@ -1,11 +1,11 @@
-use Rattle.std.proofs.Common.{◌≡◌, ℕ, zero, suc, ◌+◌, ◌-◌, ◌*◌, ◌/◌, ◌%◌, ◌^◌, ◌<◌, ◌≤◌, max, Bool, true, false, cond, ltb, leb, ◌⊎◌, List, [], ◌∷◌, length, get_or, ℤ, pos, negsuc, sym, refl, ap, ◌∙◌, inl, inr, ⊎_elim, mul_assoc, pow-suc, mul-add, arith, lt-ltb}
+use Rattle.std.proofs.Common.{◌≡◌, ℕ, zero, suc, ◌+◌, ◌-◌, ◌*◌, ◌/◌, ◌%◌, ◌^◌, ◌<◌, ◌≤◌, max, Bool, true, false, cond, ltb, leb, List, [], ◌∷◌, length, get_or, ℤ, pos, negsuc, sym, refl, ap, ◌∙◌, inl, inr, ⊎_elim, mul_assoc, pow-suc, mul-add, arith, lt-ltb}
 use native.Mathlib.Decide.{dec_le}
 use Rattle.std.proofs.lemmas.Nat.{pow-add, shr_high, pow_pos}
 use Rattle.layout.specs.Bits.{bit_at}
-use Rattle.layout.specs.Words.{byte_at, word_at, word_of, signed_of}
-use Rattle.layout.specs.Spans.{Span, span, word_span, Within, Alike, in_body}
+use Rattle.layout.specs.Words.{word_at, word_of, signed_of}
+use Rattle.layout.specs.Spans.{span, word_span, Within, in_body}
 use Rattle.layout.specs.Needs.{Sways, Needed}
-use Rattle.layout.proofs.OneBit.{one_bit, one_there, no_bit, one_else}
+use Rattle.layout.proofs.OneBit.{one_bit, one_there, one_else}
 use Rattle.layout.proofs.Sameness.{word_alike}
 
 byte_bit : (x y : ℕ) → x % 256 ≡ 0 → y < 8 → x / 2 ^ y % 2 ≡ 0

@@ -1,6 +1,6 @@
-use Rattle.std.proofs.Common.{◌≡◌, ℕ, zero, suc, ◌+◌, ◌-◌, ◌*◌, ◌/◌, ◌%◌, ◌^◌, ◌<◌, ◌≤◌, Bool, true, false, cond, ltb, List, [], ◌∷◌, get_or, ℤ, pos, negsuc, sym, refl, ap, ◌∙◌, add_assoc, arith, w8, w32, w64, Fits, to_z}
+use Rattle.std.proofs.Common.{◌≡◌, ℕ, suc, ◌+◌, ◌-◌, ◌*◌, ◌^◌, Bool, true, false, cond, ltb, List, get_or, ℤ, pos, negsuc, refl, add_assoc, arith, w8, w32, w64, Fits, to_z}
 use mir.Val.{sel}
-use Rattle.layout.specs.Words.{byte_at, word_at, signed_of}
+use Rattle.layout.specs.Words.{word_at, signed_of}
 
 -- words of two, four and eight bytes, as the reads compute them
 module _ (b : List ℕ) (p : ℕ) (h : (i : ℕ) → Fits w8 (get_or b i 0)) where

@@ -1,4 +1,4 @@
-use Rattle.std.specs.Prelude.{ℕ, zero, suc, ◌+◌, ◌*◌, ◌/◌, ◌%◌, ◌^◌, Bool, true, false, cond, List, length, Some, None, Option, ◌==◌, nat_le, nat_lt, slice_index}
+use Rattle.std.specs.Prelude.{ℕ, zero, suc, ◌+◌, ◌*◌, ◌/◌, ◌%◌, ◌^◌, Bool, cond, List, length, Some, None, Option, ◌==◌, nat_le, nat_lt, slice_index}
 
 -- bit k of a body, counted from the lowest of its first byte: 0 or 1
 abbrev pub bit_at : List ℕ → ℕ → ℕ

@@ -1,12 +1,9 @@
-use Rattle.std.proofs.Common.{◌≡◌, ℕ, zero, suc, ◌+◌, ◌*◌, ◌<◌, ◌≤◌, Bool, true, false, cond, not, eqb, ltb, leb, List, [], ◌∷◌, length, Some, None, Ok, Err, Option, Result, sym, refl, ap, ◌∙◌, arith, le-leb}
-use Rattle.ledger.specs.declared.stop.Stop.{Stop}
+use Rattle.std.proofs.Common.{◌≡◌, ℕ, zero, suc, ◌+◌, ◌*◌, Bool, true, false, cond, not, eqb, ltb, leb, List, [], length, Some, None, Ok, Err, Option, sym, refl, arith, le-leb}
 use Rattle.ledger.specs.declared.stop.Reason.TheVariants.{BeyondBytes, IndexPastEnd}
 use Rattle.ledger.specs.Stops.{stopped}
 use Rattle.layout.specs.declared.marks.Marks.{Marks}
 use Rattle.layout.specs.Bits.{bit_set, zeros_from, zeros_reply}
-use Rattle.layout.specs.Spans.{span, reach_of, in_body}
-use Rattle.layout.specs.Marks.{mark_of, mark_bit, mark_reply, mark_need_of, nulls_reply}
-use Rattle.layout.specs.Needs.{each, counts}
+use Rattle.layout.specs.Marks.{mark_of, mark_bit, mark_need_of, nulls_reply}
 use Rattle.layout.proofs.NeedLaws.{one_span, marks_reach, zeros_nulls, each_free, counts_all, counts_none}
 use Rattle.layout.proofs.Counting.{zeros_none}
 use Rattle.slots.specs.Replies.{ask_reply, count_reply, or_beyond, present_reply}

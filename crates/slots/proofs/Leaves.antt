@@ -1,9 +1,8 @@
-use Rattle.std.proofs.Common.{◌≡◌, ℕ, zero, suc, ◌+◌, ◌-◌, ◌*◌, ◌/◌, ◌<◌, ◌≤◌, min, Bool, true, false, cond, not, eqb, leb, ◌⊎◌, List, [], ◌∷◌, length, Some, None, Ok, Err, Option, Result, sym, refl, ap, ◌∙◌, inl, inr, ⊎_elim, arith, eqb-true, leb-true, MatchResult}
-use Rattle.layout.specs.declared.marks.Marks.{Marks}
-use Rattle.layout.specs.Spans.{Span, Within, Alike}
-use Rattle.layout.specs.Marks.{mark_of, mark_bit, mark_spans, marks_from, mark_need_of}
+use Rattle.std.proofs.Common.{◌≡◌, ℕ, zero, suc, ◌+◌, ◌*◌, ◌<◌, ◌≤◌, Bool, true, false, cond, not, eqb, leb, List, length, Some, None, Ok, Err, Option, Result, refl, ap, ◌∙◌, inl, inr, arith, eqb-true, leb-true, MatchResult}
+use Rattle.layout.specs.Spans.{Within}
+use Rattle.layout.specs.Marks.{mark_of, mark_spans}
 use Rattle.layout.specs.Needs.{Needed}
-use Rattle.layout.proofs.SpanLaws.{mark_alike_lem, mark_sub, mark_from}
+use Rattle.layout.proofs.SpanLaws.{mark_sub, mark_from}
 use Rattle.layout.proofs.NeedLaws.{mark_needed, needed_not}
 use Rattle.history.specs.Entry.{Entry, is_absent}
 use Rattle.history.specs.Entry.Entry.{absent}
@@ -15,7 +14,7 @@ use Rattle.slots.specs.declared.null_buffer.NullBuffer.{NullBuffer}
 use Rattle.slots.specs.declared.slots.Slots.{Slots}
 use Rattle.slots.specs.Bounds.{length_limit}
 use Rattle.slots.specs.Slots.{slot_mark, slot_need, slot_spans, slots_cut}
-use Rattle.slots.specs.Trials.{and_then, bytes_end, bit_bytes, marks_end, bytes_reply, length_reply, marks_reply, marks_at, new_slots, leaf_reply, with_slots}
+use Rattle.slots.specs.Trials.{and_then, bytes_end, bit_bytes, marks_end, marks_reply, marks_at, new_slots, leaf_reply, with_slots}
 use Rattle.slots.proofs.SameSlots.{cut_len, cut_slots}
 
 -- the marks of a cut

@@ -1,10 +1,9 @@
-use Rattle.std.specs.Prelude.{ℕ, ◌+◌, ◌*◌, Bool, true, false, cond, List, Some, None, Ok, Err, Option, Result, nat_le, nat_lt}
+use Rattle.std.specs.Prelude.{ℕ, ◌+◌, Bool, cond, List, Some, None, Ok, Err, Option, Result, nat_le, nat_lt}
 use Rattle.layout.specs.Spans.{Span, in_body}
 use Rattle.layout.specs.Needs.{each, counts}
 use Rattle.layout.specs.declared.marks.Marks.{Marks}
 use Rattle.layout.specs.Marks.{mark_reply}
 use Rattle.ledger.specs.declared.stop.Stop.{Stop}
-use Rattle.ledger.specs.declared.stop.Reason.{Reason}
 use Rattle.ledger.specs.declared.stop.Reason.TheVariants.{BeyondBytes, IndexPastEnd, NoRange}
 use Rattle.ledger.specs.Stops.{stopped}
 

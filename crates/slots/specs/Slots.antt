@@ -1,5 +1,4 @@
-use Rattle.std.specs.Prelude.{ℕ, ◌+◌, ◌-◌, min, Bool, true, false, cond, List, Some, None, Option}
-use Rattle.layout.specs.declared.marks.Marks.{Marks}
+use Rattle.std.specs.Prelude.{ℕ, ◌+◌, ◌-◌, min, Bool, List}
 use Rattle.layout.specs.Marks.{mark_of, mark_need_of, mark_spans, marks_from}
 use Rattle.layout.specs.Spans.{Span}
 use Rattle.slots.specs.declared.slots.Slots.{Slots}

@@ -1,4 +1,4 @@
-use Rattle.std.specs.Prelude.{ℕ, ◌+◌, ◌-◌, ◌*◌, ◌/◌, ◌≤◌, min, Bool, true, false, cond, List, length, Some, None, Ok, Err, Option, Result, ◌==◌, nat_le}
+use Rattle.std.specs.Prelude.{ℕ, ◌+◌, ◌/◌, ◌≤◌, min, cond, List, length, Some, None, Ok, Err, Option, Result, ◌==◌, nat_le}
 use Rattle.std.proofs.Common.{arith}
 use Rattle.layout.specs.declared.marks.Marks.{Marks}
 use Rattle.ledger.specs.declared.stop.Stop.{Stop}

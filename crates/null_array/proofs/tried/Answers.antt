@@ -8,5 +8,5 @@ use Rattle.null_array.proofs.tried.Goals as goal
 pub returns : goal.returns
 returns c =
     let h : c.args.len ≤ length_limit = omega arith in
-    let e = c.in-ok-check-bytes.ensures in
+    let e = c.in_ok-check_bytes.ensures in
     rw (sym e, le-leb c.args.len length_limit h) (ap Ok (same_nulls _ (null_leaf c.args.len) (omega arith)))

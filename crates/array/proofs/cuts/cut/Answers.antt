@@ -1,4 +1,4 @@
-use Rattle.std.proofs.Common.{◌≡◌, sym, refl, ap, ◌∙◌}
+use Rattle.std.proofs.Common.{refl}
 use Rattle.history.proofs.Leading.{cut_leads, seen_framed, stop_leads}
 use Rattle.array.proofs.Ties.{slice_cases}
 use Rattle.array.proofs.cuts.cut.Goals as goal

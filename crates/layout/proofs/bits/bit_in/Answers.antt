@@ -1,4 +1,4 @@
-use Rattle.std.proofs.Common.{◌≡◌, eqb, ap}
+use Rattle.std.proofs.Common.{eqb, ap}
 use Rattle.std.proofs.lemmas.Nat.{and_mask}
 use Rattle.layout.proofs.bits.bit_in.Goals as goal
 

@@ -1,5 +1,4 @@
-use Rattle.std.proofs.Common.{◌≡◌, ℕ, ◌+◌, ◌-◌, ◌*◌, ◌/◌, ◌%◌, sym, ap, ◌∙◌, ap₂, arith}
-use Rattle.layout.specs.Bits.{zeros_from}
+use Rattle.std.proofs.Common.{ℕ, ◌+◌, ◌-◌, ◌*◌, ◌/◌, ◌%◌, ◌∙◌, ap₂, arith}
 use Rattle.layout.proofs.Counting.{zeros_parts}
 use Rattle.layout.proofs.bits.zeros_in.Goals as goal
 

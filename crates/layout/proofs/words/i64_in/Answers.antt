@@ -1,4 +1,4 @@
-use Rattle.std.proofs.Common.{◌≡◌, sym, ap, ◌∙◌, w64, SFits, to_z, rules}
+use Rattle.std.proofs.Common.{sym, ap, ◌∙◌, w64, SFits, to_z, rules}
 use Rattle.std.proofs.lemmas.Int.{to_z-of_z}
 use Rattle.layout.specs.Words.{word_at}
 use Rattle.layout.proofs.WordSums.{word_8, signed_64}

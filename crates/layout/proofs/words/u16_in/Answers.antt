@@ -1,4 +1,4 @@
-use Rattle.std.proofs.Common.{◌≡◌, sym, ◌∙◌}
+use Rattle.std.proofs.Common.{sym, ◌∙◌}
 use Rattle.layout.proofs.WordSums.{word_2}
 use Rattle.layout.proofs.words.u16_in.Goals as goal
 

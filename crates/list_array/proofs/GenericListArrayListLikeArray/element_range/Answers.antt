@@ -11,4 +11,4 @@ returns g c =
     let h : 0 < w = ⊎_elim (λ p. omega arith) (λ p. omega arith) g.met.O.OffsetSizeTrait.known in
     let l : c.args.i < a.slots.len = omega arith in
     rw (lt-ltb c.args.i a.slots.len l)
-    (c.range-at.ensures ∙ ap (λ n. pair_found n (pair_reply w a.place b (a.slots.first + c.args.i))) c.len.ensures ∙ asked_range w a.place a.slots (g.C.Array.size a.child) b c.args.i h)
+    (c.range_at.ensures ∙ ap (λ n. pair_found n (pair_reply w a.place b (a.slots.first + c.args.i))) c.len.ensures ∙ asked_range w a.place a.slots (g.C.Array.size a.child) b c.args.i h)

@@ -11,4 +11,4 @@ returns g c =
     let h : 0 < w = ⊎_elim (λ p. omega arith) (λ p. omega arith) g.met.O.OffsetSizeTrait.known in
     let l : c.args.i < a.slots.len = omega arith in
     rw (lt-ltb c.args.i a.slots.len l)
-    (c.view-at.ensures ∙ ap (λ n. view_found n (view_reply w a.starts a.sizes b (a.slots.first + c.args.i))) c.len.ensures ∙ asked_view w a.starts a.sizes a.slots (g.C.Array.size a.child) b c.args.i h)
+    (c.view_at.ensures ∙ ap (λ n. view_found n (view_reply w a.starts a.sizes b (a.slots.first + c.args.i))) c.len.ensures ∙ asked_view w a.starts a.sizes a.slots (g.C.Array.size a.child) b c.args.i h)

@@ -1,5 +1,5 @@
-use Rattle.std.proofs.Common.{◌≡◌, ◌+◌, ◌^◌, ◌<◌, ◌≤◌, true, Ok, ap, ◌∙◌, arith, le-leb}
-use Rattle.form.specs.Forms.{places, digit_count, fixed_form, fixed_reply}
+use Rattle.std.proofs.Common.{◌≡◌, ◌+◌, ◌^◌, ◌<◌, ◌≤◌, Ok, ap, arith, le-leb}
+use Rattle.form.specs.Forms.{places, digit_count, fixed_reply}
 use Rattle.form.proofs.Shaped.{fixed_extends}
 use Rattle.form.proofs.data_type.DataType.fixed.Goals as goal
 

@@ -1,5 +1,5 @@
-use Rattle.std.proofs.Common.{◌≡◌, ◌+◌, ◌≤◌, true, Ok, ap, ◌∙◌, arith, le-leb}
-use Rattle.form.specs.Forms.{places, digit_count, layer_form, layer_reply}
+use Rattle.std.proofs.Common.{◌≡◌, ◌+◌, ◌≤◌, Ok, ap, arith, le-leb}
+use Rattle.form.specs.Forms.{places, digit_count, layer_reply}
 use Rattle.form.proofs.Shaped.{layer_extends}
 use Rattle.form.proofs.data_type.DataType.layer.Goals as goal
 

@@ -1,4 +1,4 @@
-use Rattle.std.proofs.Common.{◌≡◌, ◌+◌, ◌≤◌, true, leb, Ok, Err, sym, ap, ◌∙◌, arith, le-leb}
+use Rattle.std.proofs.Common.{◌+◌, ◌≤◌, Ok, sym, ap, ◌∙◌, arith, le-leb}
 use Rattle.slots.specs.Slots.{slots_cut}
 use Rattle.slots.proofs.SameSlots.{same_slots, cut_first, cut_len, cut_slots}
 use Rattle.slots.proofs.slots.Slots.cut.Goals as goal

@@ -1,4 +1,4 @@
-use Rattle.std.proofs.Common.{◌≡◌, ◌≤◌, Ok, sym, refl, ap, ◌∙◌, arith, le-leb}
+use Rattle.std.proofs.Common.{◌≤◌, Ok, sym, refl, ap, arith, le-leb}
 use Rattle.slots.specs.Bounds.{length_limit}
 use Rattle.slots.specs.Trials.{new_slots}
 use Rattle.slots.proofs.SameSlots.{same_slots, new_len}

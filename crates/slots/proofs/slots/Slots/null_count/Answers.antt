@@ -1,4 +1,4 @@
-use Rattle.std.proofs.Common.{◌≡◌, Err, ap, ◌∙◌}
+use Rattle.std.proofs.Common.{Err, ap, ◌∙◌}
 use Rattle.slots.specs.Replies.{or_beyond}
 use Rattle.slots.proofs.Asks.{asked_count}
 use Rattle.slots.proofs.slots.Slots.null_count.Goals as goal
