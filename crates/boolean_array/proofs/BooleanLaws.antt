@@ -1,8 +1,7 @@
-use Rattle.std.proofs.Common.{◌≡◌, ℕ, ◌+◌, ◌*◌, ◌/◌, ◌<◌, ◌≤◌, Bool, true, false, cond, ◌⊎◌, List, [], ◌∷◌, Option, sym, refl, ap, ◌∙◌, inl, inr, ⊎_elim, arith, MatchResult}
+use Rattle.std.proofs.Common.{◌≡◌, ℕ, ◌<◌, List, [], Option, refl, inl, inr, ⊎_elim, arith, MatchResult}
 use Rattle.ledger.specs.Ledger.{Accounts}
-use Rattle.ledger.specs.declared.stop.Stop.{Stop}
 use Rattle.layout.specs.Bits.{bit_at}
-use Rattle.layout.specs.Spans.{Span, Within, Alike}
+use Rattle.layout.specs.Spans.{Alike}
 use Rattle.layout.proofs.SpanLaws.{mark_alike_lem}
 use Rattle.history.specs.Calls.{TrialLeads, StopLeads}
 use Rattle.history.proofs.Leading.{trial_leads, seen_framed, stop_leads}

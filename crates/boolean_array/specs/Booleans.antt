@@ -1,14 +1,13 @@
-use Rattle.std.specs.Prelude.{ℕ, ◌+◌, ◌*◌, Bool, true, false, cond, List, [], ◌∷◌, ℤ, pos, Option, Result}
+use Rattle.std.specs.Prelude.{ℕ, ◌+◌, ◌*◌, Bool, cond, List, [], ◌∷◌, ℤ, pos, Option, Result}
 use Rattle.ledger.specs.declared.stop.Stop.{Stop}
 use Rattle.ledger.specs.Ledger.{Accounts}
-use Rattle.layout.specs.Bits.{bit_at, bit_set}
+use Rattle.layout.specs.Bits.{bit_set}
 use Rattle.layout.specs.Spans.{Span, span}
 use Rattle.history.specs.Entry.{Entry}
 use Rattle.history.specs.Entry.Entry.{absent, number}
 use Rattle.history.specs.Moments.{Handle}
 use Rattle.history.specs.Calls.{seen}
 use Rattle.slots.specs.declared.null_buffer.NullBuffer.{NullBuffer}
-use Rattle.slots.specs.declared.slots.Slots.{Slots}
 use Rattle.slots.specs.Slots.{slot_mark, slot_spans, slots_cut}
 use Rattle.slots.specs.Trials.{bytes_end, bit_bytes, leaf_reply, with_slots}
 use Rattle.boolean_array.specs.declared.boolean_array.BooleanArray.{BooleanArray}

@@ -1,4 +1,4 @@
-use Rattle.std.proofs.Common.{◌≡◌, ℕ, ◌+◌, ◌*◌, ◌^◌, ◌<◌, ◌≤◌, Bool, true, false, cond, eqb, leb, ◌⊎◌, List, [], ◌∷◌, ◌++◌, length, Ok, Err, Option, Result, sym, refl, ap, ◌∙◌, inl, inr, ⊎_elim, arith, le-leb, leb-true, MatchResult}
+use Rattle.std.proofs.Common.{◌≡◌, ℕ, ◌+◌, ◌*◌, ◌^◌, ◌<◌, ◌≤◌, Bool, true, false, cond, eqb, leb, ◌⊎◌, List, [], ◌++◌, length, Ok, Err, Option, Result, refl, inl, inr, ⊎_elim, arith, le-leb, leb-true, MatchResult}
 use native.Mathlib.Decide.{dec_le}
 use Rattle.ledger.specs.declared.stop.Stop.{Stop}
 use Rattle.ledger.specs.Stops.{stopped}
@@ -14,7 +14,7 @@ use Rattle.slots.specs.declared.slots.Slots.{Slots}
 use Rattle.slots.specs.Slots.{slot_spans}
 use Rattle.array.specs.Lists.{list_spans}
 use Rattle.slots.specs.Bounds.{length_limit}
-use Rattle.slots.specs.Trials.{and_then, bytes_end, marks_end, bytes_reply, length_reply}
+use Rattle.slots.specs.Trials.{and_then, bytes_end, marks_end, length_reply}
 use Rattle.checks.specs.Checks.{child_reply, own_reply}
 
 -- where the meaning lies in the body, the count is taken

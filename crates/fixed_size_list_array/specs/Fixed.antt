@@ -1,4 +1,4 @@
-use Rattle.std.specs.Prelude.{ℕ, ◌+◌, ◌-◌, ◌*◌, min, Bool, true, false, cond, Some, None, Option, nat_le}
+use Rattle.std.specs.Prelude.{ℕ, ◌+◌, ◌-◌, ◌*◌, min, cond, Some, None, Option, nat_le}
 use Rattle.array.specs.Windows.{Range}
 
 -- slot i's range in a child of so many entries: `size` of them from i × size on

@@ -1,10 +1,10 @@
-use Rattle.std.specs.Prelude.{◌≡◌, ℕ, zero, suc, ◌+◌, ◌-◌, ◌*◌, ◌<◌, ◌≤◌, min, Bool, true, false, cond, Some, None, Option, nat_le, refl}
-use Rattle.std.proofs.Common.{sym, ap, ◌∙◌, add-mul, mul-zero, arith, le-leb, leb-true, leb-false}
+use Rattle.std.specs.Prelude.{◌≡◌, ℕ, ◌+◌, ◌-◌, ◌*◌, ◌<◌, ◌≤◌, Bool, true, false, cond, Some, None, nat_le, refl}
+use Rattle.std.proofs.Common.{ap, ◌∙◌, add-mul, mul-zero, arith, leb-true, leb-false}
 use Rattle.std.proofs.Math.Decide.{dec_le}
 use Rattle.std.proofs.lemmas.Nat.{mul-le}
 use Rattle.history.specs.Entry.{Entry}
 use Rattle.history.specs.Entry.Entry.{window}
-use Rattle.array.specs.Windows.{Range, Inside, window_in}
+use Rattle.array.specs.Windows.{Inside, window_in}
 use Rattle.array.proofs.ListLaws.{entries_shift}
 use Rattle.fixed_size_list_array.specs.Fixed.{fixed_range, child_start, child_count}
 
@@ -69,3 +69,10 @@ fixed_window size entries start n i l f g h =
         let z = e4 in
         absurd (omega arith)
     by false false p q = refl
+
+-- the same of the child's part, whose number of entries is told
+pub cut_window : (size entries start n i count : ℕ) → i < n → (f g : ℕ → Entry) → count ≡ child_count size entries start n
+    → ((j : ℕ) → j < child_count size entries start n → g j ≡ f (child_start size entries start + j))
+    → window_in g (fixed_range size count i) ≡ window_in f (fixed_range size entries (start + i))
+cut_window size entries start n i count l f g e h =
+    ap (λ m. window_in g (fixed_range size m i)) e ∙ fixed_window size entries start n i l f g h

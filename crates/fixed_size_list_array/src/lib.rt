@@ -8,7 +8,7 @@ ghost use Rattle.array.specs.Lists.{list_shown, list_entry, list_spans, list_see
 ghost use Rattle.fixed_size_list_array.specs.Fixed.{fixed_range, child_start, child_count};
 ghost use Rattle.layout.proofs.NeedLaws.{mark_needed, needed_none};
 ghost use Rattle.array.proofs.ListLaws.{list_absence, list_mark_alike, list_entry_alike, list_shown_alike, list_within, item_told_lem};
-ghost use Rattle.fixed_size_list_array.specs.FixedLaws.{fixed_inside, child_fits};
+ghost use Rattle.fixed_size_list_array.specs.FixedLaws.{cut_window, fixed_inside, child_fits};
 ghost use Rattle.slots.proofs.Leaves.{slots_mark};
 
 use array::array::{Array, ArrayAccessor, ListLikeArray};
@@ -109,6 +109,27 @@ impl<C: Array + Copy> Array for FixedSizeListArray<C> {
         ap (λ f. fixed_form f a.size) (C.Array.cut_form a.child (child_start a.size cs s) (child_count a.size cs s n) (child_fits a.size cs s n)) };
 
     ghost cut_mark = { λ a s n l b i h. slots_mark a.slots s n l b i };
+
+    ghost cut_entry = { λ a s n l b i h.
+        let cs = C.Array.size a.child in
+        let at = child_start a.size cs s in
+        let count = child_count a.size cs s n in
+        let k = child_fits a.size cs s n in
+        let part = C.Array.cut a.child at count in
+        rw (
+          slots_mark a.slots s n l b i,
+          cut_window a.size cs s n i (C.Array.size part) h (C.Array.entry a.child b) (C.Array.entry part b) (C.Array.cut_size a.child at count k)
+              (λ j q. C.Array.cut_entry a.child at count k b j q),
+        ) refl };
+
+    ghost cut_shown = { λ a s n l b i h.
+        let cs = C.Array.size a.child in
+        let at = child_start a.size cs s in
+        let count = child_count a.size cs s n in
+        let k = child_fits a.size cs s n in
+        let part = C.Array.cut a.child at count in
+        cut_window a.size cs s n i (C.Array.size part) h (C.Array.entry a.child b) (C.Array.entry part b) (C.Array.cut_size a.child at count k)
+        (λ j q. C.Array.cut_entry a.child at count k b j q) };
 
     ghost cut_spans = { λ a s n l.
         let cs = C.Array.size a.child in

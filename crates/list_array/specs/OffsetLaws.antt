@@ -1,20 +1,18 @@
-use Rattle.std.specs.Prelude.{◌≡◌, ℕ, zero, suc, ◌+◌, ◌-◌, ◌*◌, ◌^◌, ◌<◌, ◌≤◌, Bool, true, false, cond, ◌⊎◌, List, [], ◌∷◌, length, ℤ, pos, negsuc, Some, None, Ok, Err, Option, Result, nat_le}
+use Rattle.std.specs.Prelude.{◌≡◌, ℕ, ◌+◌, ◌*◌, ◌<◌, ◌≤◌, Bool, true, false, cond, List, length, ℤ, pos, negsuc, Some, None, Err, Option, nat_le}
 use Rattle.std.proofs.Math.Path.{refl}
-use Rattle.std.proofs.Common.{sym, ap, ◌∙◌, inl, inr, ⊎_elim, le-leb, leb-true}
+use Rattle.std.proofs.Common.{ap, ◌∙◌, inl, inr, ⊎_elim, le-leb, leb-true}
 use Rattle.std.proofs.Math.Nat.{mul-add}
 use native.Mathlib.Omega.{arith}
 use Rattle.std.proofs.lemmas.Nat.{mul-le}
-use Rattle.ledger.specs.declared.stop.Stop.{Stop}
-use Rattle.ledger.specs.declared.stop.Reason.TheVariants.{BeyondBytes, IndexPastEnd}
+use Rattle.ledger.specs.declared.stop.Reason.TheVariants.{BeyondBytes}
 use Rattle.ledger.specs.Stops.{stopped}
-use Rattle.layout.specs.Words.{word_at, signed_of}
-use Rattle.layout.specs.Spans.{Span, span, word_span, Within, Alike, in_body}
+use Rattle.layout.specs.Words.{signed_of}
+use Rattle.layout.specs.Spans.{Within, Alike, in_body}
 use Rattle.layout.specs.Needs.{Needed}
-use Rattle.layout.proofs.Sameness.{word_alike}
 use Rattle.layout.proofs.WordNeeds.{words_needed, words_in, signed_none, signed_alone}
 use Rattle.slots.specs.declared.slots.Slots.{Slots}
 use Rattle.slots.specs.Slots.{slots_cut}
-use Rattle.slots.specs.Replies.{find_reply, found}
+use Rattle.slots.specs.Replies.{found}
 use Rattle.slots.proofs.SameSlots.{cut_first, cut_len}
 use Rattle.array.specs.Windows.{Range, Inside}
 use Rattle.list_array.specs.Offsets.{offset_of, pair_reply, range_of, pair_found, list_range, list_need, list_words}

@@ -1,4 +1,4 @@
-use Rattle.std.specs.Prelude.{ℕ, ◌+◌, ◌*◌, Bool, true, false, cond, List, [], ◌∷◌, length, ℤ, pos, negsuc, Some, None, Err, Option, Result, nat_le}
+use Rattle.std.specs.Prelude.{ℕ, ◌+◌, ◌*◌, cond, List, [], ◌∷◌, length, ℤ, pos, negsuc, Some, None, Err, Option, Result, nat_le}
 use Rattle.layout.specs.Spans.{Span, span, word_span}
 use Rattle.layout.specs.Words.{word_at, signed_of}
 use Rattle.slots.specs.declared.slots.Slots.{Slots}

@@ -1,13 +1,12 @@
-use Rattle.std.specs.Prelude.{◌≡◌, ℕ, zero, suc, ◌+◌, ◌-◌, ◌*◌, ◌^◌, ◌<◌, ◌≤◌, Bool, true, false, cond, ◌⊎◌, List, [], ◌∷◌, length, ℤ, pos, negsuc, Some, None, Ok, Err, Option, Result, nat_le}
+use Rattle.std.specs.Prelude.{◌≡◌, ℕ, ◌+◌, ◌*◌, ◌^◌, ◌<◌, ◌≤◌, Bool, true, false, cond, ◌⊎◌, List, length, ℤ, Some, None, Err, Option, nat_le}
 use Rattle.std.proofs.Math.Path.{refl, ap}
-use Rattle.std.proofs.Common.{sym, ◌∙◌, inl, inr, ⊎_elim, mul-add, le-leb, leb-true}
+use Rattle.std.proofs.Common.{◌∙◌, inl, inr, mul-add, le-leb, leb-true}
 use native.Mathlib.Omega.{arith}
 use Rattle.std.proofs.lemmas.Nat.{mul-le}
-use Rattle.ledger.specs.declared.stop.Stop.{Stop}
 use Rattle.ledger.specs.declared.stop.Reason.TheVariants.{BeyondBytes}
 use Rattle.ledger.specs.Stops.{stopped}
-use Rattle.layout.specs.Words.{word_at, word_of, signed_of}
-use Rattle.layout.specs.Spans.{Span, span, word_span, Within, Alike, in_body}
+use Rattle.layout.specs.Words.{word_of, signed_of}
+use Rattle.layout.specs.Spans.{Within, Alike, in_body}
 use Rattle.layout.specs.Needs.{Needed}
 use Rattle.layout.proofs.Sameness.{word_alike}
 use Rattle.layout.proofs.WordNeeds.{words_needed, words_inside, signed_none, unsigned_alone}

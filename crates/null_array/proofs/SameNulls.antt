@@ -1,4 +1,4 @@
-use Rattle.std.proofs.Common.{◌≡◌, ℕ, ◌≤◌, sym, refl, ap, ◌∙◌, subst}
+use Rattle.std.proofs.Common.{◌≡◌, ℕ, ◌≤◌, subst}
 use native.Mathlib.Bridge.{le_prop}
 use Rattle.slots.specs.Bounds.{length_limit}
 use Rattle.null_array.specs.declared.null_array.NullArray.{NullArray}

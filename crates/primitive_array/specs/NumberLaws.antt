@@ -1,10 +1,9 @@
-use Rattle.std.specs.Prelude.{◌≡◌, ℕ, ◌+◌, ◌-◌, ◌*◌, ◌/◌, ◌<◌, ◌≤◌, min, Bool, true, false, cond, ◌⊎◌, List, [], ◌∷◌, ℤ, Option, MatchResult, refl}
-use Rattle.std.proofs.Common.{sym, ap, ◌∙◌, inl, inr, ⊎_elim, mul-add, arith}
+use Rattle.std.specs.Prelude.{◌≡◌, ℕ, ◌+◌, ◌*◌, ◌<◌, ◌≤◌, List, [], ℤ, Option, MatchResult, refl}
+use Rattle.std.proofs.Common.{ap, inl, inr, ⊎_elim, mul-add, arith}
 use Rattle.std.proofs.lemmas.Nat.{mul-le}
 use Rattle.ledger.specs.Ledger.{Accounts}
-use Rattle.ledger.specs.declared.stop.Stop.{Stop}
 use Rattle.layout.specs.Words.{word_at}
-use Rattle.layout.specs.Spans.{Span, span, Within, Alike}
+use Rattle.layout.specs.Spans.{Within, Alike}
 use Rattle.layout.proofs.SpanLaws.{mark_alike_lem}
 use Rattle.layout.proofs.Sameness.{word_alike}
 use Rattle.history.specs.Calls.{TrialLeads, StopLeads}

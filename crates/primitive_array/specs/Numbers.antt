@@ -1,4 +1,4 @@
-use Rattle.std.specs.Prelude.{ℕ, ◌+◌, ◌*◌, Bool, true, false, cond, List, [], ◌∷◌, ℤ, Option, Result}
+use Rattle.std.specs.Prelude.{ℕ, ◌+◌, ◌*◌, cond, List, [], ◌∷◌, ℤ, Option, Result}
 use Rattle.ledger.specs.declared.stop.Stop.{Stop}
 use Rattle.ledger.specs.Ledger.{Accounts}
 use Rattle.layout.specs.Words.{word_at}
@@ -10,7 +10,7 @@ use Rattle.history.specs.Calls.{seen}
 use Rattle.slots.specs.declared.null_buffer.NullBuffer.{NullBuffer}
 use Rattle.slots.specs.declared.slots.Slots.{Slots}
 use Rattle.slots.specs.Slots.{slot_mark, slot_spans}
-use Rattle.slots.specs.Trials.{bytes_end, leaf_reply, with_slots}
+use Rattle.slots.specs.Trials.{bytes_end, leaf_reply}
 
 -- Numbers of w bytes from a place on; `f` is the whole number of a word.
 

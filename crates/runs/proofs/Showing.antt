@@ -1,15 +1,13 @@
-use Rattle.std.proofs.Common.{◌≡◌, ℕ, ◌+◌, ◌-◌, ◌<◌, ◌≤◌, Bool, true, false, cond, not, ltb, List, [], ◌∷◌, IfOk, Some, None, Ok, Err, Option, Result, sym, refl, ap, ◌∙◌, subst, inl, inr, arith, ltb-true, MatchResult}
+use Rattle.std.proofs.Common.{◌≡◌, ℕ, ◌+◌, ◌<◌, Bool, true, false, cond, ltb, List, ◌∷◌, IfOk, Some, None, Ok, Err, Option, Result, sym, refl, ◌∙◌, subst, inl, arith, ltb-true, MatchResult}
 use Rattle.ledger.specs.declared.stop.Stop.{Stop}
 use Rattle.ledger.specs.declared.stop.Reason.TheVariants.{BeyondBytes, IndexPastEnd}
 use Rattle.ledger.specs.Stops.{stopped}
 use Rattle.layout.specs.Spans.{Span, in_body}
-use Rattle.history.specs.Entry.{Slot, Entry, entries_from}
-use Rattle.history.specs.Entry.Entry.{window}
+use Rattle.history.specs.Entry.{Slot}
 use Rattle.history.specs.Moments.{Handle, Traced, Moment, In, Reached, Shown, distance}
-use Rattle.history.specs.Calls.{seen, CutLeads, as_cut, with_handle}
+use Rattle.history.specs.Calls.{CutLeads, as_cut, with_handle}
 use Rattle.history.proofs.Holding.{distance_law, runs_go_on}
 use Rattle.slots.specs.Replies.{ask_reply, find_reply, found}
-use Rattle.array.specs.Windows.{Range, window_in}
 use Rattle.runs.specs.Replies.{FirstShowed, Behind}
 
 -- the law at a moment that a run leads to

@@ -23,7 +23,7 @@ pub fn null_in_run<A: Array>(a: &A, body: &[u8], i: u64) -> Result<bool, Stop>
 // showed as it was made.
 pub fn range_in_run<L: ListLikeArray>(a: &L, body: &[u8], i: u64) -> Result<(u64, u64), Stop>
     ensures answers { result ≡ find_reply (L.Array.size a.now) (L.ListLikeArray.range_need a.now) (L.ListLikeArray.range a.now body.now) body.now i }
-    ensures trail { IfOk result (λ p. FirstShowed (L.Array.seen a.now) body.now i (λ s. s.entry ≡ window (entries_from (Child-as-Array.entry (L.ListLikeArray.child a.now) body.now) p.0 (p.1 - p.0)))) }
+    ensures trail { IfOk result (λ p. FirstShowed (L.Array.seen a.now) body.now i (λ s. s.entry ≡ window (entries_from (L.Child.Array.entry (L.ListLikeArray.child a.now) body.now) p.0 (p.1 - p.0)))) }
 {
     a.element_range(body, i)
 }

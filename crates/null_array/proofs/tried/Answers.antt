@@ -1,6 +1,5 @@
-use Rattle.std.proofs.Common.{◌≡◌, ◌≤◌, Ok, sym, ap, ◌∙◌, arith, rules, le-leb}
+use Rattle.std.proofs.Common.{◌≤◌, Ok, sym, ap, arith, le-leb}
 use Rattle.slots.specs.Bounds.{length_limit}
-use Rattle.slots.specs.Trials.{and_then, length_reply}
 use Rattle.null_array.specs.Nulls.{null_leaf}
 use Rattle.null_array.proofs.SameNulls.{same_nulls}
 use Rattle.null_array.proofs.tried.Goals as goal

@@ -1,4 +1,3 @@
-use Rattle.std.proofs.Common.{sym}
 use Rattle.ledger.specs.Ledger.{accounts_of}
 use Rattle.primitive_array.specs.NumberLaws.{number_leads}
 use Rattle.primitive_array.proofs.try_new.Goals as goal

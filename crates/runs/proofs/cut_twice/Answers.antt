@@ -3,5 +3,5 @@ use Rattle.runs.proofs.cut_twice.Goals as goal
 
 pub returns : goal.returns
 returns g c =
-    let l = c.in-ok-once.ensures.leads in
+    let l = c.in_ok-once.ensures.leads in
     cases_map c.cut-2.result _ _ _ _ (λ h q. behind_twice _ _ _ _ _ _ _ l q) (λ e h. tt) c.cut-2.ensures.leads

@@ -8,7 +8,7 @@ returns g c =
     let b = c.args.body.now in
     let i = c.args.i in
     record {
-      answers = c.is-null.ensures;
-      trail = asked_cases (g.A.Array.size a) (g.A.Array.mark_need a) (λ j. not (g.A.Array.mark a b j)) b i c.is-null.result _ c.is-null.ensures
+      answers = c.is_null.ensures;
+      trail = asked_cases (g.A.Array.size a) (g.A.Array.mark_need a) (λ j. not (g.A.Array.mark a b j)) b i c.is_null.result _ c.is_null.ensures
           (λ l. rw (g.met.A.Array.sight a) (first_showed _ b i (λ s. not (g.A.Array.mark a b i) ≡ not s.present) l refl));
     }

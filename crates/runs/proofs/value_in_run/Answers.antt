@@ -1,4 +1,4 @@
-use Rattle.std.proofs.Common.{◌≡◌, ap, ◌∙◌}
+use Rattle.std.proofs.Common.{◌≡◌, ◌∙◌}
 use Rattle.runs.proofs.Showing.{first_showed, found_cases}
 use Rattle.runs.proofs.value_in_run.Goals as goal
 

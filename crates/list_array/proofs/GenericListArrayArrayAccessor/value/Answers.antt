@@ -1,4 +1,4 @@
-use Rattle.std.proofs.Common.{◌≡◌, ◌∙◌}
+use Rattle.std.proofs.Common.{◌∙◌}
 use Rattle.list_array.specs.Offsets.{list_range, list_need}
 use Rattle.list_array.specs.OffsetLaws.{list_inside}
 use Rattle.array.proofs.ListLaws.{value_step}

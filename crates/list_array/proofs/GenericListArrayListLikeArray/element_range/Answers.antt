@@ -1,4 +1,4 @@
-use Rattle.std.proofs.Common.{◌≡◌, ℕ, ◌+◌, ◌<◌, ap, ◌∙◌, ⊎_elim, arith, lt-ltb}
+use Rattle.std.proofs.Common.{◌+◌, ◌<◌, ap, ◌∙◌, ⊎_elim, arith, lt-ltb}
 use Rattle.list_array.specs.Offsets.{pair_found, pair_reply}
 use Rattle.list_array.specs.OffsetLaws.{asked_range}
 use Rattle.list_array.proofs.GenericListArrayListLikeArray.element_range.Goals as goal

@@ -1,4 +1,4 @@
-use Rattle.std.proofs.Common.{◌≡◌, ◌∙◌}
+use Rattle.std.proofs.Common.{◌∙◌}
 use Rattle.list_view_array.specs.Views.{view_range, view_need}
 use Rattle.list_view_array.specs.ViewLaws.{view_inside}
 use Rattle.array.proofs.ListLaws.{value_step}

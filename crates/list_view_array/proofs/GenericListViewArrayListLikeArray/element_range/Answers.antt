@@ -1,4 +1,4 @@
-use Rattle.std.proofs.Common.{◌≡◌, ℕ, ◌+◌, ◌<◌, ap, ◌∙◌, ⊎_elim, arith, lt-ltb}
+use Rattle.std.proofs.Common.{◌+◌, ◌<◌, ap, ◌∙◌, ⊎_elim, arith, lt-ltb}
 use Rattle.list_view_array.specs.Views.{view_found, view_reply}
 use Rattle.list_view_array.specs.ViewLaws.{asked_view}
 use Rattle.list_view_array.proofs.GenericListViewArrayListLikeArray.element_range.Goals as goal

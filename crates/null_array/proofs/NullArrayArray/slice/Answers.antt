@@ -1,4 +1,4 @@
-use Rattle.std.proofs.Common.{◌≡◌, ◌+◌, ◌≤◌, Ok, ap, arith, le-leb}
+use Rattle.std.proofs.Common.{◌+◌, ◌≤◌, Ok, ap, arith, le-leb}
 use Rattle.null_array.specs.Nulls.{null_cut}
 use Rattle.null_array.proofs.SameNulls.{same_nulls}
 use Rattle.null_array.proofs.NullArrayArray.slice.Goals as goal

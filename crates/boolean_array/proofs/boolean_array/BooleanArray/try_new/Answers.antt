@@ -1,4 +1,3 @@
-use Rattle.std.proofs.Common.{sym}
 use Rattle.ledger.specs.Ledger.{accounts_of}
 use Rattle.boolean_array.proofs.BooleanLaws.{bool_leads}
 use Rattle.boolean_array.proofs.boolean_array.BooleanArray.try_new.Goals as goal
