@@ -1,5 +1,5 @@
 use Rattle.std.specs.Prelude.{◌≡◌, ℕ, List, [], ◌∷◌, Ok, Err, Result}
-use Rattle.std.specs.List.{AllByRecursion as All}
+use Rattle.std.specs.List.{AllByRecursion}
 use Rattle.ledger.specs.declared.stop.Stop.{Stop}
 use Rattle.ledger.specs.Stops.{number_of}
 use Rattle.form.specs.declared.data_type.DataType.{DataType}
@@ -37,4 +37,4 @@ examples =
     ∷ []
 
 abbrev pub ExamplesHold : Type 0
-ExamplesHold = All (λ e. told (built e.0) ≡ e.1) examples
+ExamplesHold = AllByRecursion (λ e. told (built e.0) ≡ e.1) examples

@@ -1,5 +1,5 @@
 use Rattle.std.specs.Prelude.{◌≡◌, ℕ, ◌+◌, ◌*◌, Bool, true, false, not, List, [], ◌∷◌, ℤ, pos, negsuc, Some, None, Ok, Err, Option, Result}
-use Rattle.std.specs.List.{AllByRecursion as All}
+use Rattle.std.specs.List.{AllByRecursion}
 use Rattle.ledger.specs.declared.stop.Stop.{Stop}
 use Rattle.ledger.specs.Stops.{number_of}
 use Rattle.ledger.specs.Ledger.{Accounts}
@@ -101,4 +101,4 @@ cases =
     ∷ []
 
 abbrev pub CasesHold : Type 0
-CasesHold = All (λ c. c.0 ≡ c.1) cases
+CasesHold = AllByRecursion (λ c. c.0 ≡ c.1) cases

@@ -15,10 +15,10 @@ loop-i-preserved g c =
     let f : ℕ → Result Range Stop = λ i. find_reply (g.L.Array.size a) (g.L.ListLikeArray.range_need a) (g.L.ListLikeArray.range a b) b i in
     all_more f c.loop-i.i c.loop-i.invariant (ap is_ok (sym c.in-Ok.ensures))
 
-pub returns-in-default : goal.returns-in-default
-returns-in-default g c =
+pub returns-in_default : goal.returns-in_default
+returns-in_default g c =
     let a = c.args.a.now in
     let b = c.args.body.now in
     let f : ℕ → Result Range Stop = λ i. find_reply (g.L.Array.size a) (g.L.ListLikeArray.range_need a) (g.L.ListLikeArray.range a b) b i in
     let l : c.loop-i.i < g.L.Array.size a = search rules in
-    sym (all_not f c.loop-i.i (g.L.Array.size a) l (ap is_ok (sym c.in-default.ensures)))
+    sym (all_not f c.loop-i.i (g.L.Array.size a) l (ap is_ok (sym c.in_default.ensures)))

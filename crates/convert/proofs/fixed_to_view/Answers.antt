@@ -24,9 +24,9 @@ returns g c =
     let cs = g.C.Array.size a.child in
     let f = g.C.Array.entry a.child in
     let child = g.C.Array.spans a.child in
-    let x = c.in-ok-starts.starts in
-    let y = c.in-ok-starts.sizes in
-    let e = c.in-ok-starts.ensures in
+    let x = c.in_ok-starts.starts in
+    let y = c.in_ok-starts.sizes in
+    let e = c.in_ok-starts.ensures in
     let found = all_ok (λ i. find_reply s.len (λ j. []) (fixed_range a.size cs) b i) s.len in
     let small = starts_small w a.size s.len in
     let passed = and_taken (fixed_tests ledger b found small) (reservation2 ledger n n) (x, y) e.answers in
@@ -38,16 +38,16 @@ returns g c =
     let views = views_put w (λ d i. find_reply s.len (λ j. []) (fixed_range a.size cs) d i) (aligned ledger.end) (second ledger n) b s.len in
     let ex : x ≡ aligned ledger.end = ap (λ (q : ℕ × ℕ). q.0) p.1 in
     let ey : y ≡ second ledger n = ap (λ (q : ℕ × ℕ). q.1) p.1 in
-    let after : (accounts_of c.fixed-turned.new.ledger).end ≡ second ledger n + n = ap (λ (q : Accounts). q.end) e.account ∙ ap (λ (u : Bool). (cond u (record { length = ledger.length; loaded = ledger.loaded; end = second ledger n + n }) ledger).end) p.0 in
+    let after : (accounts_of c.fixed_turned.new.ledger).end ≡ second ledger n + n = ap (λ (q : Accounts). q.end) e.account ∙ ap (λ (u : Bool). (cond u (record { length = ledger.length; loaded = ledger.loaded; end = second ledger n + n }) ledger).end) p.0 in
     record {
       answers = search rules;
       account = e.account;
       leaves = e.leaves;
       leads = λ below.
           let base : T (aligned ledger.end) (second ledger n) (fresh_slots s) (second ledger n + n) views = fixed_turns w g.met.O.OffsetSizeTrait.known a.size s cs f child (g.met.C.Array.entry_alike a.child) b ledger (sym l) z t.1.0 t.1.1 below in
-          subst (λ u. T u y c.fresh.result (accounts_of c.fixed-turned.new.ledger).end c.fixed-turned.new.body) (sym ex)
-          (subst (λ v. T (aligned ledger.end) v c.fresh.result (accounts_of c.fixed-turned.new.ledger).end c.fixed-turned.new.body) (sym ey)
-          (subst (λ r. T (aligned ledger.end) (second ledger n) r (accounts_of c.fixed-turned.new.ledger).end c.fixed-turned.new.body) (sym c.fresh.ensures)
-          (subst (λ end. T (aligned ledger.end) (second ledger n) (fresh_slots s) end c.fixed-turned.new.body) (sym after)
+          subst (λ u. T u y c.fresh.result (accounts_of c.fixed_turned.new.ledger).end c.fixed_turned.new.body) (sym ex)
+          (subst (λ v. T (aligned ledger.end) v c.fresh.result (accounts_of c.fixed_turned.new.ledger).end c.fixed_turned.new.body) (sym ey)
+          (subst (λ r. T (aligned ledger.end) (second ledger n) r (accounts_of c.fixed_turned.new.ledger).end c.fixed_turned.new.body) (sym c.fresh.ensures)
+          (subst (λ end. T (aligned ledger.end) (second ledger n) (fresh_slots s) end c.fixed_turned.new.body) (sym after)
           (subst (λ d. T (aligned ledger.end) (second ledger n) (fresh_slots s) (second ledger n + n) d) (sym e.leaves) base))));
     }

@@ -20,10 +20,10 @@ loop-i-preserved g c =
     let i = c.loop-i.i in
     let p = c.args.starts in
     let q = c.args.sizes in
-    let x = c.start-of-start.result in
-    let y = c.size-of-size.result in
-    let s : x ≡ start_of (range b i) = c.start-of-start.ensures ∙ ap start_of c.element-range-range.ensures in
-    let z : y ≡ size_of (range b i) = c.size-of-size.ensures ∙ ap size_of c.element-range-range.ensures in
+    let x = c.start_of-start.result in
+    let y = c.size_of-size.result in
+    let s : x ≡ start_of (range b i) = c.start_of-start.ensures ∙ ap start_of c.element_range-range.ensures in
+    let z : y ≡ size_of (range b i) = c.size_of-size.ensures ∙ ap size_of c.element_range-range.ensures in
     let d = c.write.new.body in
     let e : d ≡ offset_put w b p i (start_of (range b i)) =
     c.write.ensures.leaves ∙ ap (λ (u : ℕ). written w b (p + u * i) (x % suc (largest_of w))) c.width-w.ensures ∙ ap (offset_put w b p i) s in

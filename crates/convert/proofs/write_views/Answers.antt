@@ -20,7 +20,7 @@ returns g c =
     let m : c.width.result * c.len-n.result ≡ w * size = ap₂ (λ (x y : ℕ). x * y) c.width.ensures e in
     let x : p + w * size ≤ length b = omega arith in
     let y : q + w * size ≤ length b = omega arith in
-    let l : c.put-views.new.body ≡ views_put w range p q b size = c.put-views.ensures ∙ ap (views_put w range p q b) e in
+    let l : c.put_views.new.body ≡ views_put w range p q b size = c.put_views.ensures ∙ ap (views_put w range p q b) e in
     record {
       fits = rw (le-leb (p + w * size) (length b) x, le-leb (q + w * size) (length b) y) refl;
       leaves = l;

@@ -13,8 +13,8 @@ same m n r p q = cc
 never : (r : Result ℕ Stop) (n : ℕ) (e : Stop) → r ≡ Ok n → Err e ≡ r → ⊥
 never r n e p h = let z : ◌≡◌ {A = ℕ} 0 1 = cc in omega arith
 
-pub returns-in-Ok-logical-null-count : goal.returns-in-Ok-logical-null-count
-returns-in-Ok-logical-null-count g c =
+pub returns-in-Ok-logical_null_count : goal.returns-in-Ok-logical_null_count
+returns-in-Ok-logical_null_count g c =
     let a = c.args.child.now in
     let b = c.args.body.now in
     let from = c.args.from in
@@ -24,7 +24,7 @@ returns-in-Ok-logical-null-count g c =
     let k = count_taken (g.C.Array.size p) (g.C.Array.absent_need p) (λ d j. is_absent (g.C.Array.entry p d j)) (g.C.Array.spans p) b
     (g.met.C.Array.absent_needs p) (λ d f h i l. ap is_absent (g.met.C.Array.entry_alike p d f h i l)) (part_in (g.C.Array.spans a) (g.C.Array.spans p) b (g.met.C.Array.cut_spans a from n c.requires.0) c.requires.1) in
     let m = part_absents (g.C.Array.entry a b) (g.C.Array.entry p b) from n (g.C.Array.size p) (g.met.C.Array.cut_size a from n c.requires.0) (λ j l. g.met.C.Array.cut_entry a from n c.requires.0 b j l) in
-    let q = same c.in-Ok-logical-null-count.absent _ _ c.in-Ok-logical-null-count.ensures (rw e k) in
+    let q = same c.in-Ok-logical_null_count.absent _ _ c.in-Ok-logical_null_count.ensures (rw e k) in
     ap (λ (x : ℕ). not (eqb x 0)) (q ∙ m)
 
 pub returns-in-Err : goal.returns-in-Err

@@ -11,17 +11,17 @@ not_below a b p q = grind (arith, ints)
 
 pub loop-k-init : goal.loop-k-init
 loop-k-init g c =
-    let f : SFits w64 c.offset-in-last.result = search rules in
-    let e = to_z-of_z w64 c.offset-in-last.result f in
-    (e ∙ c.offset-in-last.ensures, rises_none _, c.if-last-lt0.false)
+    let f : SFits w64 c.offset_in-last.result = search rules in
+    let e = to_z-of_z w64 c.offset_in-last.result f in
+    (e ∙ c.offset_in-last.ensures, rises_none _, c.if-last-lt0.false)
 
 pub returns-then-next-last : goal.returns-then-next-last
 returns-then-next-last g c =
     let f : ℕ → ℤ = offset_of g.O.OffsetSizeTrait.width c.args.place c.args.body.now in
-    let s : SFits w64 c.offset-in-next.result = search rules in
-    let s0 : SFits w64 c.offset-in-last.result = search rules in
-    let e = to_z-of_z w64 c.offset-in-next.result s in
-    let e0 = to_z-of_z w64 c.offset-in-last.result s0 in
+    let s : SFits w64 c.offset_in-next.result = search rules in
+    let s0 : SFits w64 c.offset_in-last.result = search rules in
+    let e = to_z-of_z w64 c.offset_in-next.result s in
+    let e0 = to_z-of_z w64 c.offset_in-last.result s0 in
     let k = c.loop-k.k in
     let t : lt_z (f k) (f (k - 1)) ≡ true = cc in
     let z : lt_z (f 0) (pos 0) ≡ false = cc in
@@ -32,14 +32,14 @@ returns-then-next-last g c =
 pub loop-k-preserved : goal.loop-k-preserved
 loop-k-preserved g c =
     let f : ℕ → ℤ = offset_of g.O.OffsetSizeTrait.width c.args.place c.args.body.now in
-    let s : SFits w64 c.offset-in-next.result = search rules in
-    let e = to_z-of_z w64 c.offset-in-next.result s in
+    let s : SFits w64 c.offset_in-next.result = search rules in
+    let e = to_z-of_z w64 c.offset_in-next.result s in
     let k = c.loop-k.k in
     let p : k + 1 - 1 ≡ k = omega arith in
     let t : lt_z (f k) (f (k - 1)) ≡ false = cc in
-    let u : lt_z (to_z w64 (of_z w64 c.offset-in-next.result)) c.loop-k.last ≡ false = cc in
+    let u : lt_z (to_z w64 (of_z w64 c.offset_in-next.result)) c.loop-k.last ≡ false = cc in
     let v : lt_z c.loop-k.last (pos 0) ≡ false = cc in (
-      e ∙ c.offset-in-next.ensures ∙ ap f (sym p),
+      e ∙ c.offset_in-next.ensures ∙ ap f (sym p),
       rises_more f k c.loop-k.auto.k c.loop-k.invariant.1 t,
-      not_below (to_z w64 (of_z w64 c.offset-in-next.result)) c.loop-k.last u v,
+      not_below (to_z w64 (of_z w64 c.offset_in-next.result)) c.loop-k.last u v,
     )

@@ -5,12 +5,12 @@ use Rattle.slots.specs.Trials.{bytes_end, new_slots}
 use Rattle.checks.proofs.Counted.{own_taken, few_words, new_never}
 use Rattle.list_trial.proofs.tried.Goals as goal
 
-pub returns-in-err-slots : goal.returns-in-err-slots
-returns-in-err-slots g c =
+pub returns-in_err-slots : goal.returns-in_err-slots
+returns-in_err-slots g c =
     let w = g.O.OffsetSizeTrait.width in
     let ledger = accounts_of c.args.ledger.now in
     let count = c.args.count in
     let o = own_taken ledger c.args.body.now (bytes_end c.args.place (w * count)) c.args.nulls (g.C.Array.spans c.args.child) (search rules) in
     let l : ledger.loaded < 2 ^ 64 = search rules in
     let f = few_words w c.args.place count ledger.loaded g.met.O.OffsetSizeTrait.known o.0 l in
-    absurd (new_never (count - 1) (new_slots (count - 1) c.args.nulls) _ (omega arith) c.in-err-slots.ensures)
+    absurd (new_never (count - 1) (new_slots (count - 1) c.args.nulls) _ (omega arith) c.in_err-slots.ensures)

@@ -9,11 +9,11 @@ loop-k-init g c = ends_none _ _
 pub loop-k-preserved : goal.loop-k-preserved
 loop-k-preserved g c = search (rules, ends_more)
 
-pub returns-in-err-check-end : goal.returns-in-err-check-end
-returns-in-err-check-end g c =
+pub returns-in_err-check_end : goal.returns-in_err-check_end
+returns-in_err-check_end g c =
     let size = c.args.size in
     let end : ℕ → ℕ = view_end g.O.OffsetSizeTrait.width c.args.starts c.args.sizes c.args.body.now in
     let k = c.loop-k.k in
-    let h = c.in-err-check-end.ensures ∙ ap (end_reply size) c.view-end.ensures in
+    let h = c.in_err-check_end.ensures ∙ ap (end_reply size) c.view_end.ensures in
     let s = ends_stop size end k c.args.n _ (search rules) c.loop-k.invariant h in
     search rules

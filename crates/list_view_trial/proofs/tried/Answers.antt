@@ -5,8 +5,8 @@ use Rattle.checks.proofs.Counted.{own_taken, few_words, new_never}
 use Rattle.list_view_trial.specs.Trial.{view_own}
 use Rattle.list_view_trial.proofs.tried.Goals as goal
 
-pub returns-in-err-slots : goal.returns-in-err-slots
-returns-in-err-slots g c =
+pub returns-in_err-slots : goal.returns-in_err-slots
+returns-in_err-slots g c =
     let w = g.O.OffsetSizeTrait.width in
     let ledger = accounts_of c.args.ledger.now in
     let starts = c.args.starts in
@@ -16,4 +16,4 @@ returns-in-err-slots g c =
     let l : ledger.loaded < 2 ^ 64 = search rules in
     let m : bytes_end starts.place (w * starts.len) ≤ ledger.loaded = omega arith in
     let f = few_words w starts.place starts.len ledger.loaded g.met.O.OffsetSizeTrait.known m l in
-    absurd (new_never starts.len (new_slots starts.len c.args.nulls) _ f c.in-err-slots.ensures)
+    absurd (new_never starts.len (new_slots starts.len c.args.nulls) _ f c.in_err-slots.ensures)

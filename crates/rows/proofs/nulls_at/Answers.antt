@@ -3,8 +3,8 @@ use Rattle.layout.specs.Bits.{zeros_from}
 use Rattle.rows.proofs.RowLaws.{zeros_found, zeros_there}
 use Rattle.rows.proofs.nulls_at.Goals as goal
 
-pub returns-in-default : goal.returns-in-default
-returns-in-default c = λ h. absurd (zeros_there c.args.body.now c.args.place c.args.n h c.in-default.ensures)
+pub returns-in_default : goal.returns-in_default
+returns-in_default c = λ h. absurd (zeros_there c.args.body.now c.args.place c.args.n h c.in_default.ensures)
 
 pub returns-then-zeros-eq0 : goal.returns-then-zeros-eq0
 returns-then-zeros-eq0 c = λ h.

@@ -6,7 +6,7 @@ pub returns-then-at-body : goal.returns-then-at-body
 unfolding bit_put
 returns-then-at-body c =
     let t : ltb (c.args.place + c.args.k / 8) (length c.args.body.now) ≡ true = lt-ltb _ _ c.if-at-body.true in
-    rw t c.set-bit.ensures
+    rw t c.set_bit.ensures
 
 pub returns-else-at-body : goal.returns-else-at-body
 unfolding bit_put
