@@ -1,4 +1,4 @@
-use Rattle.std.proofs.Common.{◌≡◌, ℕ, ◌+◌, ◌*◌, ◌<◌, ◌≤◌, Bool, true, false, cond, leb, ◌⊎◌, List, [], Ok, Err, Option, Result, sym, refl, ap, ◌∙◌, inl, inr, arith, leb-true, MatchResult}
+use Rattle.std.proofs.Common.{◌≡◌, ℕ, ◌*◌, ◌<◌, ◌≤◌, Bool, true, false, cond, leb, List, [], Ok, Err, Option, Result, refl, arith, leb-true, MatchResult}
 use Rattle.layout.specs.Spans.{Span, Within, Alike}
 use Rattle.ledger.specs.declared.stop.Stop.{Stop}
 use Rattle.ledger.specs.declared.stop.Reason.TheVariants.{TooLarge}
@@ -11,7 +11,7 @@ use Rattle.slots.specs.declared.null_buffer.NullBuffer.{NullBuffer}
 use Rattle.slots.specs.declared.slots.Slots.{Slots}
 use Rattle.slots.specs.Slots.{slot_spans}
 use Rattle.slots.specs.Bounds.{length_limit}
-use Rattle.slots.specs.Trials.{and_then, marks_end, length_reply, marks_reply, new_slots}
+use Rattle.slots.specs.Trials.{and_then, length_reply, marks_reply, new_slots}
 use Rattle.slots.proofs.SameSlots.{new_len}
 use Rattle.slots.proofs.Leaves.{marks_loaded}
 use Rattle.array.specs.Lists.{list_seen}

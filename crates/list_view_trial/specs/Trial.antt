@@ -1,4 +1,4 @@
-use Rattle.std.specs.Prelude.{ℕ, zero, suc, ◌+◌, ◌*◌, ◌/◌, ◌^◌, max, Bool, true, false, cond, List, Ok, Err, Option, Result, ◌==◌, nat_le}
+use Rattle.std.specs.Prelude.{ℕ, zero, suc, ◌+◌, ◌*◌, ◌/◌, ◌^◌, max, cond, List, Ok, Err, Option, Result, ◌==◌, nat_le}
 use Rattle.layout.specs.Spans.{Span}
 use Rattle.layout.specs.Words.{word_of}
 use Rattle.ledger.specs.declared.stop.Stop.{Stop}

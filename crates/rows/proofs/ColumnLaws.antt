@@ -1,10 +1,9 @@
-use Rattle.std.proofs.Common.{◌≡◌, ℕ, zero, suc, ◌+◌, ◌-◌, ◌*◌, ◌<◌, ◌≤◌, ◌⊎◌, List, [], ◌∷◌, ◌++◌, map, length, replicate, sym, refl, ap, ◌∙◌, inl, inr, ⊎_elim, append_assoc, add-zero, mul-add, add-one, arith}
+use Rattle.std.proofs.Common.{◌≡◌, ℕ, zero, suc, ◌+◌, ◌*◌, ◌<◌, ◌≤◌, List, [], ◌∷◌, ◌++◌, length, replicate, sym, refl, ap, ◌∙◌, inl, inr, append_assoc, add-zero, mul-add, arith}
 use Rattle.std.proofs.lemmas.Nat.{mul-le}
-use Rattle.std.proofs.lemmas.List.{replicate_more}
 use Rattle.layout.specs.Bits.{bit_at}
-use Rattle.layout.specs.Spans.{Span, Within, Alike}
+use Rattle.layout.specs.Spans.{Within, Alike}
 use Rattle.rows.specs.Rows.{listed, rows_put}
-use Rattle.rows.specs.Columns.{Column, cell_of, cells_below, row_cells, rows_below, InOrder}
+use Rattle.rows.specs.Columns.{Column, row_cells, rows_below, InOrder}
 use Rattle.rows.proofs.Lists.{listed_push}
 
 cell_end : (w k n : ℕ) → k < n → w * k + w ≤ w * n

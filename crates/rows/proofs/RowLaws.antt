@@ -1,7 +1,6 @@
-use Rattle.std.proofs.Common.{◌≡◌, ℕ, zero, suc, ◌+◌, ◌-◌, ◌*◌, ◌/◌, ◌%◌, ◌^◌, ◌<◌, ◌≤◌, Bool, true, false, cond, eqb, ltb, leb, ◌⊎◌, List, [], ◌∷◌, ◌++◌, length, get_or, set, Some, None, Option, sym, refl, ap, ◌∙◌, inl, inr, ⊎_elim, mod-eq_of_lt, mul_comm, mul-add, arith, length-set, get_or-set_other, get_or-set_same, le-ltb, lt-ltb, eq-eqb, ne_eqb, eqb-true, le-leb}
+use Rattle.std.proofs.Common.{◌≡◌, ℕ, zero, suc, ◌+◌, ◌-◌, ◌*◌, ◌/◌, ◌%◌, ◌^◌, ◌<◌, ◌≤◌, Bool, true, false, cond, eqb, ltb, leb, ◌⊎◌, List, [], ◌∷◌, ◌++◌, length, get_or, set, Some, None, Option, sym, refl, ap, ◌∙◌, inl, inr, ⊎_elim, mul_comm, mul-add, arith, length-set, get_or-set_other, get_or-set_same, le-ltb, lt-ltb, eq-eqb, ne_eqb, eqb-true, le-leb}
 use native.Mathlib.Decide.{ℕ_discrete, dec_le}
 use lib.Bits.{bit_and, bit_or, or_zero_r, and_zero_r}
-use borrow.Author.Tests.{lt-leb}
 use Rattle.std.proofs.lemmas.Nat.{or_shr, and_shr, or_mod, and_mod, mul-le}
 use Rattle.std.proofs.lemmas.Bool.{cases_eq, cond-true, cond-false}
 use Rattle.layout.specs.Bits.{bit_at, bit_set, zeros_from, zeros_reply}
@@ -9,11 +8,10 @@ use Rattle.layout.specs.Words.{word_at, put_word, written}
 use Rattle.layout.specs.Marks.{mark_of, mark_spans}
 use Rattle.layout.specs.Spans.{Within}
 use Rattle.slots.specs.Trials.{marks_at}
-use Rattle.layout.proofs.Counting.{zeros_none, zeros_more}
+use Rattle.layout.proofs.Counting.{zeros_none}
 use Rattle.layout.proofs.Sameness.{word_alike}
 use Rattle.layout.proofs.WordLaws.{others_stay, written_is_read}
-use Rattle.slots.specs.declared.null_buffer.NullBuffer.{NullBuffer}
-use Rattle.rows.specs.Rows.{listed, bits_of, words_of, with_bit, bit_put, word_put, nulls_at}
+use Rattle.rows.specs.Rows.{bits_of, words_of, with_bit, bit_put, nulls_at}
 use Rattle.rows.proofs.Lists.{listed_alike, listed_push}
 
 -- one bit of a byte after bit j of it is set or cleared: a table of 64 cases that computes

@@ -1,13 +1,13 @@
-use Rattle.std.proofs.Common.{◌≡◌, ℕ, zero, suc, ◌+◌, ◌-◌, ◌*◌, ◌/◌, ◌%◌, ◌^◌, ◌<◌, ◌≤◌, Bool, true, false, cond, eqb, ◌⊎◌, List, [], ◌∷◌, ◌++◌, length, replicate, sym, refl, ap, ◌∙◌, inl, inr, ⊎_elim, mul_assoc, mul-add, arith}
+use Rattle.std.proofs.Common.{◌≡◌, ℕ, ◌+◌, ◌*◌, ◌^◌, ◌<◌, ◌≤◌, Bool, eqb, ◌⊎◌, List, [], ◌∷◌, ◌++◌, length, replicate, refl, ap, ◌∙◌, inl, inr, ⊎_elim, mul_assoc, mul-add, arith}
 use native.Mathlib.Decide.{dec_le}
 use Rattle.std.proofs.lemmas.Nat.{mul-le}
 use Rattle.layout.specs.Bits.{bit_at, bit_set}
-use Rattle.layout.specs.Spans.{Span, span, Within, Alike}
-use Rattle.layout.specs.Words.{word_at, written}
+use Rattle.layout.specs.Spans.{Within, Alike}
+use Rattle.layout.specs.Words.{word_at}
 use Rattle.layout.proofs.Sameness.{word_alike}
 use Rattle.slots.specs.Trials.{bit_bytes}
 use Rattle.rows.specs.Rows.{listed, bit_put, rows_put, marked_word, put_marked_word}
-use Rattle.rows.specs.Columns.{Column, bit_column, word_column, InOrder, row_cells, rows_below}
+use Rattle.rows.specs.Columns.{Column, bit_column, word_column, InOrder, row_cells}
 use Rattle.rows.proofs.RowLaws.{length_bit, bit_there, bit_else, length-written, word_there, word_else}
 use Rattle.rows.proofs.ColumnLaws.{rows_length, rows_others, rows_read}
 

@@ -1,4 +1,4 @@
-use Rattle.std.proofs.Common.{◌≡◌, ℕ, ◌+◌, true, not, eqb, Ok, Err, Result, sym, refl, ap, ◌∙◌, arith, rules}
+use Rattle.std.proofs.Common.{◌≡◌, ℕ, not, eqb, Ok, Err, Result, ap, ◌∙◌, arith}
 use Rattle.ledger.specs.declared.stop.Stop.{Stop}
 use Rattle.layout.specs.Needs.{counts}
 use Rattle.history.specs.Entry.{is_absent}

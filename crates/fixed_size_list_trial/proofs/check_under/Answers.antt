@@ -1,6 +1,6 @@
-use Rattle.std.proofs.Common.{◌≡◌, ◌*◌, ◌<◌, true, false, cond, sym, ap, ◌∙◌, rules}
+use Rattle.std.proofs.Common.{◌≡◌, ◌<◌, true, sym, ◌∙◌, rules}
 use Rattle.slots.specs.Slots.{slot_mark}
-use Rattle.fixed_size_list_trial.specs.Trial.{absent_in, absent_under}
+use Rattle.fixed_size_list_trial.specs.Trial.{absent_under}
 use Rattle.fixed_size_list_trial.proofs.Parts.{under_none, under_more, under_found, slot_in}
 use Rattle.fixed_size_list_trial.proofs.check_under.Goals as goal
 

@@ -1,4 +1,4 @@
-use Rattle.std.proofs.Common.{◌≡◌, ℕ, Ok, Err, Result, sym, ap, ◌∙◌, rules}
+use Rattle.std.proofs.Common.{ℕ, Ok, Result, ap, ◌∙◌}
 use Rattle.std.proofs.lemmas.Result.{err_from_is_err_and}
 use Rattle.ledger.specs.declared.stop.Stop.{Stop}
 use Rattle.slots.specs.declared.slots.Slots.{Slots}

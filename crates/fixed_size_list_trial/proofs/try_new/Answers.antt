@@ -1,4 +1,4 @@
-use Rattle.std.proofs.Common.{◌≡◌, ℕ, ◌*◌, [], nat_abs, Ok, Result, sym, refl, ap, ◌∙◌, inl, w32, SFits, rules}
+use Rattle.std.proofs.Common.{nat_abs, sym, w32, SFits, rules}
 use Rattle.std.proofs.lemmas.Int.{to_z-of_z}
 use Rattle.ledger.specs.Ledger.{accounts_of}
 use Rattle.form.specs.Forms.{fixed_reply}

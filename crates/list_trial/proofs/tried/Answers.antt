@@ -1,6 +1,5 @@
-use Rattle.std.proofs.Common.{◌≡◌, ℕ, ◌-◌, ◌*◌, ◌^◌, ◌<◌, ◌≤◌, ◌⊎◌, sym, refl, ap, ◌∙◌, arith, rules}
+use Rattle.std.proofs.Common.{◌-◌, ◌*◌, ◌^◌, ◌<◌, arith, rules}
 use Rattle.ledger.specs.Ledger.{accounts_of}
-use Rattle.slots.specs.Bounds.{length_limit}
 use Rattle.slots.specs.Trials.{bytes_end, new_slots}
 use Rattle.checks.proofs.Counted.{own_taken, few_words, new_never}
 use Rattle.list_trial.proofs.tried.Goals as goal

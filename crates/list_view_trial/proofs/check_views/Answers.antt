@@ -1,4 +1,4 @@
-use Rattle.std.proofs.Common.{◌≡◌, ℕ, ◌<◌, ap, ◌∙◌, arith, rules}
+use Rattle.std.proofs.Common.{ℕ, ap, ◌∙◌, rules}
 use Rattle.list_view_trial.specs.Trial.{view_end, end_reply}
 use Rattle.list_view_trial.proofs.Ends.{ends_none, ends_more, ends_stop}
 use Rattle.list_view_trial.proofs.check_views.Goals as goal

@@ -1,4 +1,4 @@
-use Rattle.std.proofs.Common.{◌≡◌, ℕ, ◌*◌, ◌^◌, ◌<◌, ◌≤◌, sym, refl, ap, ◌∙◌, arith, rules}
+use Rattle.std.proofs.Common.{◌*◌, ◌^◌, ◌<◌, ◌≤◌, arith, rules}
 use Rattle.ledger.specs.Ledger.{accounts_of}
 use Rattle.slots.specs.Trials.{bytes_end, new_slots}
 use Rattle.checks.proofs.Counted.{own_taken, few_words, new_never}

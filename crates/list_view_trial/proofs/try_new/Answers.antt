@@ -1,4 +1,4 @@
-use Rattle.std.proofs.Common.{◌≡◌, ℕ, ◌+◌, ◌*◌, ◌/◌, ◌^◌, ◌<◌, ◌≤◌, Ok, Result, sym, refl, ap, ◌∙◌, arith, rules}
+use Rattle.std.proofs.Common.{ℕ, ◌+◌, ◌*◌, ◌/◌, ◌^◌, ◌<◌, ◌≤◌, Ok, Result, sym, ap, ◌∙◌, arith, rules}
 use Rattle.ledger.specs.declared.stop.Stop.{Stop}
 use Rattle.ledger.specs.Ledger.{accounts_of}
 use Rattle.form.specs.Forms.{layer_reply}

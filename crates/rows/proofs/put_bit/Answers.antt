@@ -1,4 +1,4 @@
-use Rattle.std.proofs.Common.{◌≡◌, ◌+◌, ◌/◌, true, false, ltb, length, sym, refl, ap, ◌∙◌, le-ltb, lt-ltb}
+use Rattle.std.proofs.Common.{◌≡◌, ◌+◌, ◌/◌, true, false, ltb, length, refl, le-ltb, lt-ltb}
 use Rattle.rows.specs.Rows.{bit_put}
 use Rattle.rows.proofs.put_bit.Goals as goal
 

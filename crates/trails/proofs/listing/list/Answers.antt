@@ -7,7 +7,7 @@ loop-i-preserved c =
     let old = c.loop-i.invariant in
     let ok : is_ok c.push.result ≡ true = search rules in
     let added = c.push.ensures.by_index.1 None ok in
-    let slot = c.in-ok-slot.ensures in
+    let slot = c.in_ok-slot.ensures in
     let count = old.0 in (
       search rules,
       below_more _ _
