@@ -1,11 +1,11 @@
-use Rattle.std.proofs.Common.{◌≡◌, ℕ, zero, suc, ◌+◌, ◌-◌, ◌<◌, ◌≤◌, Bool, true, false, cond, List, [], ◌∷◌, ◌++◌, length, get_or, ℤ, Some, None, Option, sym, refl, ap, ◌∙◌, arith, length-append}
+use Rattle.std.proofs.Common.{◌≡◌, ℕ, zero, suc, ◌+◌, ◌-◌, ◌<◌, ◌≤◌, List, length, Some, None, Option, sym, ap, ◌∙◌, arith, length-append}
 use Rattle.std.proofs.lemmas.List.{get_or_append_left}
 use Rattle.history.specs.Entry.{Entry, Entries, Slot, entries_from}
 use Rattle.history.specs.Entry.Entry.{absent, number, window}
 use Rattle.history.specs.Entry.Entries.{none, more}
 use Rattle.array.specs.Windows.{Range, window_in}
 use Rattle.builder.specs.Meaning.{slot_at}
-use Rattle.builder.specs.Growth.{Grown, Front, Filled, Added}
+use Rattle.builder.specs.Growth.{Grown, Front, Added}
 use Rattle.builder.specs.Growth.Grown.{still_absent, same_number, longer}
 use Rattle.builder.specs.Growth.Front.{anyway, before}
 use Rattle.builder.specs.Layers.{Wider, Reaches}

@@ -1,23 +1,22 @@
-use Rattle.std.proofs.Common.{◌≡◌, ℕ, zero, suc, ◌+◌, ◌-◌, ◌<◌, ◌≤◌, Bool, true, false, cond, eqb, List, [], ◌∷◌, ◌++◌, map, length, get_or, replicate, Ok, Err, Option, Result, sym, refl, ap, ◌∙◌, arith, length-append, ne_eqb, eqb-true}
+use Rattle.std.proofs.Common.{◌≡◌, ℕ, zero, suc, ◌+◌, ◌-◌, ◌<◌, ◌≤◌, Bool, true, false, cond, eqb, List, [], ◌∷◌, ◌++◌, map, length, get_or, replicate, Ok, Err, Option, Result, sym, refl, ap, ◌∙◌, arith, length-append, ne_eqb}
 use Rattle.std.proofs.lemmas.List.{get_or_append_left}
 use Rattle.ledger.specs.declared.stop.Stop.{Stop}
-use Rattle.ledger.specs.Stops.{passed}
 use Rattle.form.specs.declared.data_type.DataType.{DataType}
 use Rattle.form.specs.declared.data_type.Field.{Field}
 use Rattle.history.specs.Entry.{Entry, Slot}
 use Rattle.history.specs.Entry.Entry.{absent}
-use Rattle.array.specs.Windows.{Range, window_in}
+use Rattle.array.specs.Windows.{Range}
 use Rattle.rows.specs.Rows.{listed}
 use Rattle.rows.proofs.Lists.{listed_alike, listed_split, length-listed, get_or-listed, map-++, length-map}
 use Rattle.builder.specs.declared.step.Step.{Step}
-use Rattle.builder.specs.Meaning.{Behaviour, held, entry_of, slot_at, on_ok, deeper, child_next, after}
+use Rattle.builder.specs.Meaning.{Behaviour, held, entry_of, on_ok, deeper, child_next, after}
 use Rattle.builder.specs.Growth.{Grown, Filled, Added, Lawful}
 use Rattle.builder.specs.Growth.Grown.{still_absent}
 use Rattle.builder.specs.Tables.{step_slots}
-use Rattle.builder.specs.Layers.{Layer, layer_own, layer_reply, layer_taken, layer_next, layer_shown, layer_mark, layer_slot, layer_slots, layer_sees, layer_means, Wider, Reaches}
+use Rattle.builder.specs.Layers.{Layer, layer_own, layer_reply, layer_taken, layer_next, layer_slot, layer_slots, layer_sees, layer_means, Wider, Reaches}
 use Rattle.builder.proofs.Running.{lawful_run}
 use Rattle.builder.proofs.LeafLaws.{ok_next}
-use Rattle.builder.proofs.GrowthLaws.{grown_same, kept_slots, window_grown}
+use Rattle.builder.proofs.GrowthLaws.{kept_slots, window_grown}
 
 deeper_ok : (r : Result (Unit {0}) Stop) → deeper r ≡ Ok tt → r ≡ Ok tt
 deeper_ok (Ok u) e = refl

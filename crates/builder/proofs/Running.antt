@@ -1,6 +1,6 @@
-use Rattle.std.proofs.Common.{◌≡◌, ℕ, List, [], ◌∷◌, ◌++◌, Ok, sym, refl, ap, ◌∙◌}
+use Rattle.std.proofs.Common.{◌≡◌, ℕ, [], ◌∷◌, ◌++◌, Ok, refl}
 use Rattle.builder.specs.declared.step.Step.{Step}
-use Rattle.builder.specs.Meaning.{Seen, Steps, Behaviour, run, ran, after}
+use Rattle.builder.specs.Meaning.{Seen, Steps, run, ran, after}
 use Rattle.builder.specs.Growth.{Added, Lawful}
 
 module _ {S : Type 0} (see : S → Seen) (next : S → ℕ → Step → S) where

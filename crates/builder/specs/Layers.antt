@@ -1,4 +1,4 @@
-use Rattle.std.specs.Prelude.{◌≡◌, ℕ, ◌+◌, ◌-◌, ◌<◌, ◌≤◌, Bool, true, false, cond, List, [], map, length, Some, None, Ok, Err, Option, Result, ◌==◌, slice_index_or}
+use Rattle.std.specs.Prelude.{◌≡◌, ℕ, ◌-◌, ◌<◌, ◌≤◌, Bool, true, false, cond, List, [], map, length, Some, None, Ok, Err, Option, Result, ◌==◌, slice_index_or}
 use Rattle.ledger.specs.declared.stop.Stop.{Stop}
 use Rattle.ledger.specs.declared.stop.Reason.TheVariants.{NoSuchStep, TooLarge}
 use Rattle.ledger.specs.Stops.{stopped, passed}

@@ -1,9 +1,9 @@
-use Rattle.std.specs.Prelude.{ℕ, Bool, true, false, cond, List, map, length, ℤ, pos, Ok, Err, Result, ◌==◌}
+use Rattle.std.specs.Prelude.{ℕ, Bool, true, false, cond, map, length, ℤ, pos, Ok, Err, Result, ◌==◌}
 use Rattle.ledger.specs.declared.stop.Stop.{Stop}
 use Rattle.ledger.specs.declared.stop.Reason.TheVariants.{NoSuchStep, NumberOutOfRange}
 use Rattle.ledger.specs.Stops.{stopped}
 use Rattle.form.specs.declared.data_type.DataType.{DataType}
-use Rattle.history.specs.Entry.{Entry, Slot}
+use Rattle.history.specs.Entry.{Slot}
 use Rattle.history.specs.Entry.Entry.{absent, number}
 use Rattle.slots.specs.Trials.{and_then}
 use Rattle.builder.specs.declared.step.Step.{Step}

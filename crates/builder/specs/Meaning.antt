@@ -1,4 +1,4 @@
-use Rattle.std.specs.Prelude.{◌≡◌, ℕ, zero, suc, ◌+◌, Bool, true, false, cond, List, [], ◌∷◌, ◌++◌, length, Ok, Err, Result, ◌==◌, slice_index_or}
+use Rattle.std.specs.Prelude.{ℕ, true, cond, List, [], ◌∷◌, length, Ok, Err, Result, ◌==◌, slice_index_or}
 use Rattle.ledger.specs.declared.stop.Stop.{Stop}
 use Rattle.ledger.specs.declared.stop.Reason.TheVariants.{BodyLengthDiffers}
 use Rattle.ledger.specs.Stops.{stopped, passed}

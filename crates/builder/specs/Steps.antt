@@ -1,4 +1,4 @@
-use Rattle.std.specs.Prelude.{◌≡◌, ℕ, ◌<◌, Bool, List, [], ◌∷◌}
+use Rattle.std.specs.Prelude.{◌≡◌, ℕ, ◌<◌, Bool, List}
 use Rattle.layout.specs.Spans.{Span, Within}
 use Rattle.history.specs.Entry.{Entry, Slot}
 use Rattle.history.specs.Moments.{Builder}

@@ -1,4 +1,4 @@
-use Rattle.std.proofs.Common.{◌≡◌, ℕ, zero, suc, ◌+◌, ◌<◌, ◌≤◌, Bool, true, false, cond, is_ok, Ok, Err, Result, sym, refl, ap, ◌∙◌, add-one, arith}
+use Rattle.std.proofs.Common.{◌≡◌, ℕ, zero, suc, ◌+◌, ◌<◌, Bool, true, false, cond, is_ok, Ok, Err, Result, refl, add-one, arith}
 use native.Mathlib.Decide.{ℕ_discrete}
 use Rattle.ledger.specs.declared.stop.Stop.{Stop}
 use Rattle.convert.specs.Turning.{all_ok}

@@ -1,8 +1,7 @@
-use Rattle.std.proofs.Common.{◌≡◌, ℕ, zero, suc, ◌+◌, ◌-◌, ◌*◌, ◌^◌, ◌<◌, ◌≤◌, Bool, true, false, cond, eqb, ltb, leb, ◌⊎◌, List, [], ◌∷◌, ◌++◌, length, ℤ, pos, negsuc, Some, None, Ok, Err, Option, Result, sym, refl, ap, ◌∙◌, inl, inr, ⊎_elim, zero-add, arith, lt-ltb, le-leb}
-use Rattle.ledger.specs.declared.stop.Stop.{Stop}
+use Rattle.std.proofs.Common.{◌≡◌, ℕ, suc, ◌+◌, ◌-◌, ◌*◌, ◌^◌, ◌<◌, ◌≤◌, Bool, true, false, cond, eqb, ltb, ◌⊎◌, List, [], ◌++◌, length, pos, negsuc, Some, Ok, Option, sym, refl, ap, ◌∙◌, inl, inr, ⊎_elim, zero-add, arith, lt-ltb, le-leb}
 use Rattle.layout.specs.Bits.{bit_at}
-use Rattle.layout.specs.Words.{word_at, word_of, signed_of}
-use Rattle.layout.specs.Spans.{Span, span, Within, Alike}
+use Rattle.layout.specs.Words.{word_at, signed_of}
+use Rattle.layout.specs.Spans.{Span, Within, Alike}
 use Rattle.layout.specs.Needs.{Needed}
 use Rattle.layout.proofs.SpanLaws.{within_l, within_r, within_either, mark_alike_lem}
 use Rattle.history.specs.Entry.{Entry, Slot}
@@ -14,7 +13,7 @@ use Rattle.array.specs.Windows.{Range, Inside, window_in}
 use Rattle.array.specs.Offsets.{largest_of}
 use Rattle.array.specs.Lists.{list_shown, list_spans, list_seen}
 use Rattle.array.proofs.ListLaws.{window_alike, taken_range}
-use Rattle.list_view_array.specs.Views.{word_number, view_of, view_range, view_words}
+use Rattle.list_view_array.specs.Views.{view_of, view_range, view_words}
 use Rattle.convert.specs.Writing.{start_of, size_of, views_put, Written, fresh_slots}
 use Rattle.convert.proofs.Written.{views_show}
 

@@ -1,18 +1,16 @@
-use Rattle.std.proofs.Common.{◌≡◌, ℕ, zero, suc, ◌+◌, ◌-◌, ◌*◌, ◌%◌, ◌^◌, ◌<◌, ◌≤◌, Bool, true, false, cond, ltb, leb, ◌⊎◌, List, [], ◌∷◌, length, Ok, Err, Option, Result, sym, refl, ap, ◌∙◌, inl, inr, ⊎_elim, mod-eq_of_lt, pow-suc, mul-add, add-one, arith, le-leb}
+use Rattle.std.proofs.Common.{◌≡◌, ℕ, zero, suc, ◌+◌, ◌*◌, ◌%◌, ◌^◌, ◌<◌, ◌≤◌, ◌⊎◌, List, length, Option, Result, refl, ap, ◌∙◌, inl, inr, ⊎_elim, mul-add, add-one, arith, le-leb}
 use native.Mathlib.Decide.{ℕ_discrete}
 use Rattle.std.proofs.lemmas.Nat.{mul-le}
 use Rattle.ledger.specs.declared.stop.Stop.{Stop}
 use Rattle.layout.specs.Bits.{bit_at}
-use Rattle.layout.specs.Words.{word_at, put_word, written, word_fits}
+use Rattle.layout.specs.Words.{word_at, put_word}
 use Rattle.layout.proofs.WordLaws.{others_stay, written_is_read}
 use Rattle.layout.proofs.Sameness.{word_alike}
 use Rattle.array.specs.Windows.{Range}
 use Rattle.array.specs.Offsets.{largest_of}
-use Rattle.layout.specs.Spans.{Span, Within, in_body}
+use Rattle.layout.specs.Spans.{Span}
 use Rattle.layout.specs.Needs.{Needed}
-use Rattle.slots.specs.Replies.{find_reply, found}
-use Rattle.ledger.specs.declared.stop.Reason.TheVariants.{BeyondBytes, IndexPastEnd}
-use Rattle.ledger.specs.Stops.{stopped}
+use Rattle.slots.specs.Replies.{find_reply}
 use Rattle.convert.specs.Writing.{start_of, size_of, offset_put, views_put, Written, ViewsShow}
 
 -- what one written offset leaves

@@ -1,8 +1,8 @@
-use Rattle.std.specs.Prelude.{ℕ, zero, suc, ◌+◌, ◌-◌, ◌*◌, Bool, true, false, cond, List, [], length, is_ok, Ok, Err, Result, ◌==◌, nat_le}
+use Rattle.std.specs.Prelude.{ℕ, zero, suc, ◌-◌, ◌*◌, Bool, true, false, cond, List, [], length, is_ok, Ok, Err, Result, ◌==◌, nat_le}
 use Rattle.ledger.specs.declared.stop.Stop.{Stop}
 use Rattle.ledger.specs.declared.stop.Reason.TheVariants.{BodyLengthDiffers, BeyondBytes, NoRange, TooLarge}
 use Rattle.ledger.specs.Stops.{stopped}
-use Rattle.ledger.specs.Ledger.{Accounts, aligned, second, reservation2}
+use Rattle.ledger.specs.Ledger.{Accounts}
 use Rattle.layout.specs.Spans.{Span}
 use Rattle.slots.specs.declared.slots.Slots.{Slots}
 use Rattle.slots.specs.Trials.{and_then}

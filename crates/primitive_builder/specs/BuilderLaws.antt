@@ -1,19 +1,19 @@
-use Rattle.std.specs.Prelude.{◌≡◌, ℕ, zero, suc, ◌+◌, ◌-◌, ◌*◌, ◌/◌, ◌%◌, ◌^◌, ◌<◌, ◌≤◌, Bool, true, false, cond, ◌⊎◌, List, [], ◌∷◌, ◌++◌, map, length, replicate, ℤ, pos, is_some, Some, None, Ok, Option, nat_eq, refl}
+use Rattle.std.specs.Prelude.{◌≡◌, ℕ, ◌+◌, ◌*◌, ◌%◌, ◌^◌, ◌<◌, ◌≤◌, Bool, true, ◌⊎◌, List, ◌++◌, map, length, replicate, ℤ, pos, is_some, Some, None, Ok, Option, nat_eq, refl}
 use Rattle.std.proofs.Common.{sym, ap, ◌∙◌, inl, inr, ⊎_elim, mul_assoc, mul-add, mod-eq_of_lt, arith}
 use Rattle.std.proofs.Math.Decide.{dec_le}
 use Rattle.std.proofs.lemmas.Nat.{mul-le}
 use Rattle.std.specs.Option.{unwrap_or}
 use Rattle.form.specs.declared.data_type.DataType.{DataType}
 use Rattle.layout.specs.Bits.{bit_at, bit_set}
-use Rattle.layout.specs.Spans.{Span, span, Within, Alike}
-use Rattle.layout.specs.Words.{word_at, written}
+use Rattle.layout.specs.Spans.{Within, Alike}
+use Rattle.layout.specs.Words.{word_at}
 use Rattle.layout.proofs.Sameness.{word_alike}
 use Rattle.history.specs.Calls.{Stepped}
 use Rattle.layout.specs.Marks.{mark_spans}
 use Rattle.history.specs.Entry.{Slot}
 use Rattle.slots.specs.declared.slots.Slots.{Slots}
 use Rattle.slots.specs.Slots.{slot_mark}
-use Rattle.slots.specs.Trials.{bit_bytes, marks_at, new_slots}
+use Rattle.slots.specs.Trials.{marks_at, new_slots}
 use Rattle.primitive_array.specs.Numbers.{number_entry, number_spans}
 use Rattle.rows.specs.declared.rows.Rows.{Rows}
 use Rattle.rows.specs.Rows.{listed, bit_put, rows_put, nulls_at}
@@ -23,10 +23,9 @@ use Rattle.rows.proofs.RowLaws.{length_bit, bit_there, bit_else, length-written,
 use Rattle.rows.proofs.ColumnLaws.{cell_below, below_below, rows_apart, rows_length, rows_others, rows_read}
 use Rattle.builder.specs.declared.step.Step.{Step}
 use Rattle.builder.specs.declared.step.Step.TheVariants.{Value, Null, Nulls, Close}
-use Rattle.builder.specs.Meaning.{after}
 use Rattle.builder.specs.Steps.{erased, Goes, Shows}
-use Rattle.builder.specs.Tables.{pushed, step_slots}
-use Rattle.builder.specs.Leaves.{Leaf, leaf_slot, leaf_row, leaf_test, leaf_own, leaf_reply, leaf_means}
+use Rattle.builder.specs.Tables.{step_slots}
+use Rattle.builder.specs.Leaves.{leaf_slot, leaf_row, leaf_test, leaf_reply, leaf_means}
 use Rattle.builder.proofs.LeafLaws.{leaf_taken, leaf_room, leaf_fits, leaf_goes, leaf_slot_lem}
 use Rattle.primitive_builder.specs.Numbers.{number_row, number_leaf, put_number, put_numbers, grown, number_columns, number_own, number_rests, NumbersInside}
 

@@ -1,5 +1,5 @@
-use Rattle.std.specs.Prelude.{◌≡◌, ℕ, zero, suc, ◌+◌, ◌-◌, ◌*◌, ◌^◌, ◌<◌, ◌≤◌, Bool, true, false, cond, ltb, leb, ℤ, pos, negsuc, Some, None, Option, refl}
-use Rattle.std.proofs.Common.{sym, ap, ◌∙◌, arith, to_z, of_z}
+use Rattle.std.specs.Prelude.{◌≡◌, ℕ, ◌^◌, ◌<◌, ℤ, pos, negsuc, Some, refl}
+use Rattle.std.proofs.Common.{arith, to_z, of_z}
 use Rattle.layout.specs.Words.{signed_of, word_of}
 use Rattle.std.specs.Int.{w32}
 use Rattle.primitive_builder.specs.Natives.{signed_word}

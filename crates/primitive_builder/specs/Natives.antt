@@ -1,4 +1,4 @@
-use Rattle.std.specs.Prelude.{ℕ, suc, ◌-◌, ◌*◌, ◌^◌, Bool, true, false, cond, ℤ, pos, negsuc, Some, None, Option, nat_le, nat_lt}
+use Rattle.std.specs.Prelude.{ℕ, suc, ◌-◌, ◌*◌, ◌^◌, cond, ℤ, pos, negsuc, Some, None, Option, nat_le, nat_lt}
 
 -- the word of an unsigned or a signed number in w bytes; nothing where the number lies outside their range
 abbrev pub unsigned_word : ℕ → ℤ → Option ℕ

@@ -1,10 +1,10 @@
 -- What writing a number or setting a bit does to the words and bits of a body.
-use Rattle.std.proofs.Common.{◌≡◌, ℕ, zero, suc, ◌+◌, ◌-◌, ◌*◌, ◌/◌, ◌%◌, ◌^◌, ◌<◌, ◌≤◌, max, Bool, true, false, cond, ◌≢◌, List, ◌++◌, length, get_or, take, set, replicate, IfOk, Ok, Option, sym, refl, ap, ◌∙◌, subst, inl, inr, arith, get_or-set_other, get_or-set_same, le-leb}
-use native.Mathlib.Decide.{ℕ_discrete, dec_le}
+use Rattle.std.proofs.Common.{◌≡◌, ℕ, ◌+◌, ◌*◌, ◌/◌, ◌%◌, ◌^◌, ◌<◌, ◌≤◌, max, List, ◌++◌, length, get_or, take, set, replicate, IfOk, Ok, Option, sym, refl, ap, subst, inl, inr, arith, get_or-set_other, get_or-set_same, le-leb}
+use native.Mathlib.Decide.{ℕ_discrete}
 use lib.Bits.{bit_or, or_shr, or_step}
 use lib.ListN.{get_or-replicate}
 use lib.Seq.{take-append_seam}
-use Rattle.std.proofs.lemmas.Nat.{pow-add, shr_high, pow_below, pow_pos, one_shl}
+use Rattle.std.proofs.lemmas.Nat.{shr_high, pow_pos, one_shl}
 use Rattle.ledger.specs.Ledger.{Accounts}
 use Rattle.layout.proofs.OneBit.{power_bit}
 use Rattle.layout.specs.Bits.{bit_at}

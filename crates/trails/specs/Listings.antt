@@ -1,4 +1,4 @@
-use Rattle.std.specs.Prelude.{◌≡◌, ℕ, ◌<◌, Bool, cond, not, List, ℤ, pos, Some, None, vec_items, vec_len, Option, slice_index_or}
+use Rattle.std.specs.Prelude.{◌≡◌, ℕ, ◌<◌, cond, not, List, ℤ, pos, Some, None, vec_items, vec_len, Option, slice_index_or}
 use Rattle.layout.specs.Needs.{counts}
 use Rattle.layout.specs.Words.{word_at}
 use Rattle.slots.specs.declared.slots.Slots.{Slots}

@@ -1,4 +1,4 @@
-use Rattle.std.proofs.Common.{◌≡◌, ℕ, ◌<◌, is_ok, Result, sym, ap, ◌∙◌, rules}
+use Rattle.std.proofs.Common.{ℕ, ◌<◌, is_ok, Result, sym, ap, rules}
 use Rattle.ledger.specs.declared.stop.Stop.{Stop}
 use Rattle.slots.specs.Replies.{find_reply}
 use Rattle.array.specs.Windows.{Range}

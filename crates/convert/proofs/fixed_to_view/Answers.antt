@@ -1,6 +1,5 @@
-use Rattle.std.proofs.Common.{◌≡◌, ℕ, ◌+◌, ◌*◌, ◌<◌, ◌≤◌, Bool, true, false, cond, List, [], length, Ok, Result, sym, refl, ap, ◌∙◌, subst, arith, rules, eqb-true, leb-true}
-use Rattle.ledger.specs.declared.stop.Stop.{Stop}
-use Rattle.ledger.specs.Ledger.{Accounts, accounts_of, aligned, second, have_places, reservation2, reserved2}
+use Rattle.std.proofs.Common.{◌≡◌, ℕ, ◌+◌, ◌*◌, ◌≤◌, Bool, cond, List, [], length, sym, ap, ◌∙◌, subst, rules, eqb-true, leb-true}
+use Rattle.ledger.specs.Ledger.{Accounts, accounts_of, aligned, second, reservation2}
 use Rattle.history.specs.Calls.{TurnLeads}
 use Rattle.slots.specs.declared.slots.Slots.{Slots}
 use Rattle.slots.specs.Replies.{find_reply}

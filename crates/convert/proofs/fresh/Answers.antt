@@ -1,7 +1,6 @@
 use Rattle.std.proofs.Common.{refl}
 use Rattle.slots.proofs.SameSlots.{same_slots}
 use Rattle.convert.specs.Writing.{fresh_slots}
-use Rattle.convert.proofs.ListTurning.{list_turns}
 use Rattle.convert.proofs.fresh.Goals as goal
 
 pub returns : goal.returns

@@ -1,7 +1,6 @@
-use Rattle.std.proofs.Common.{◌≡◌, ℕ, ◌+◌, ◌*◌, ◌<◌, ◌≤◌, Bool, true, false, cond, List, length, Ok, Result, sym, refl, ap, ◌∙◌, subst, arith, rules, eqb-true, leb-true}
-use Rattle.ledger.specs.declared.stop.Stop.{Stop}
-use Rattle.ledger.specs.Ledger.{Accounts, accounts_of, aligned, second, have_places, reservation2, reserved2}
-use Rattle.layout.specs.Spans.{in_body, Within}
+use Rattle.std.proofs.Common.{◌≡◌, ℕ, ◌+◌, ◌*◌, ◌≤◌, Bool, cond, List, length, sym, ap, ◌∙◌, subst, rules, eqb-true, leb-true}
+use Rattle.ledger.specs.Ledger.{Accounts, accounts_of, aligned, second, reservation2}
+use Rattle.layout.specs.Spans.{in_body}
 use Rattle.history.specs.Entry.{is_absent}
 use Rattle.history.specs.Calls.{TurnLeads}
 use Rattle.slots.specs.declared.slots.Slots.{Slots}

@@ -1,4 +1,4 @@
-use Rattle.std.proofs.Common.{◌≡◌, ℕ, suc, ◌+◌, ◌*◌, ◌%◌, List, Result, sym, refl, ap, ◌∙◌}
+use Rattle.std.proofs.Common.{◌≡◌, ℕ, suc, ◌+◌, ◌*◌, ◌%◌, List, Result, sym, ap, ◌∙◌}
 use Rattle.ledger.specs.declared.stop.Stop.{Stop}
 use Rattle.layout.specs.Words.{written}
 use Rattle.slots.specs.Replies.{find_reply}

@@ -1,8 +1,8 @@
-use Rattle.std.proofs.Common.{◌≡◌, ℕ, ◌+◌, ◌*◌, ◌≤◌, List, length, Result, sym, refl, ap, ◌∙◌, ap₂, arith, rules, le-leb}
+use Rattle.std.proofs.Common.{◌≡◌, ℕ, ◌+◌, ◌*◌, ◌≤◌, List, length, Result, refl, ap, ◌∙◌, ap₂, arith, le-leb}
 use Rattle.ledger.specs.declared.stop.Stop.{Stop}
 use Rattle.slots.specs.Replies.{find_reply}
 use Rattle.array.specs.Windows.{Range}
-use Rattle.convert.specs.Writing.{views_put, ViewsShow}
+use Rattle.convert.specs.Writing.{views_put}
 use Rattle.convert.proofs.Written.{views_show}
 use Rattle.convert.proofs.write_views.Goals as goal
 

@@ -1,4 +1,4 @@
-use Rattle.std.proofs.Common.{◌≡◌, ◌+◌, ◌*◌, ◌≤◌, length, sym, ◌∙◌, arith, below_more}
+use Rattle.std.proofs.Common.{◌+◌, ◌*◌, ◌≤◌, length, ◌∙◌, arith, below_more}
 use Rattle.trails.proofs.Bodies.{word_there, word_else, bits_else}
 use Rattle.trails.proofs.block.put_numbers.Goals as goal
 

@@ -1,4 +1,4 @@
-use Rattle.std.proofs.Common.{◌≡◌, ℕ, ◌-◌, ◌%◌, ◌^◌, ◌<◌, ap, ◌∙◌, arith, w32, SFits, to_z, of_z, rules}
+use Rattle.std.proofs.Common.{◌≡◌, ◌-◌, ◌%◌, ◌^◌, ◌<◌, ap, ◌∙◌, arith, w32, SFits, to_z, of_z, rules}
 use lib.Bits.{bit_and}
 use Rattle.std.proofs.lemmas.Nat.{and_mask}
 use Rattle.std.proofs.lemmas.Int.{of_z-to_z, to_z-of_z}
@@ -11,7 +11,7 @@ returns c =
     let x = bit_and c.args.bits (2 ^ 32 - 1) in
     let m : bit_and c.args.bits (2 ^ 32 - 1) ≡ c.args.bits % 2 ^ 32 = and_mask c.args.bits 32 in
     let l : bit_and c.args.bits (2 ^ 32 - 1) < 2 ^ 32 = omega arith in
-    let f : SFits w32 c.cast-signed.result = search rules in
-    let e : word_of 4 (to_z w32 (of_z w32 c.cast-signed.result)) ≡ c.args.bits % 2 ^ 32 =
-    ap (word_of 4) (to_z-of_z w32 c.cast-signed.result f ∙ c.cast-signed.ensures) ∙ word_bits (bit_and c.args.bits (2 ^ 32 - 1)) ∙ of_z-to_z w32 (bit_and c.args.bits (2 ^ 32 - 1)) l ∙ m in
-    c.put-i32.ensures.leaves ∙ ap (written 4 c.args.body.now c.args.at) e
+    let f : SFits w32 c.cast_signed.result = search rules in
+    let e : word_of 4 (to_z w32 (of_z w32 c.cast_signed.result)) ≡ c.args.bits % 2 ^ 32 =
+    ap (word_of 4) (to_z-of_z w32 c.cast_signed.result f ∙ c.cast_signed.ensures) ∙ word_bits (bit_and c.args.bits (2 ^ 32 - 1)) ∙ of_z-to_z w32 (bit_and c.args.bits (2 ^ 32 - 1)) l ∙ m in
+    c.put_i32.ensures.leaves ∙ ap (written 4 c.args.body.now c.args.at) e
