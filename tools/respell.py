@@ -18,7 +18,8 @@ STRING = re.compile(r'"(?:[^"\\\n]|\\.)*"')
 MADE = ("Answers.antt", "Invariants.antt", "Choices.antt", "Given.antt")
 WORDS = {"use", "mod", "pub", "where", "mutual", "abbrev", "unfoldable", "data", "record", "let", "in"}
 
-# names whose dash joins two functions, and lemmas that would fall together with a definition or ghost member
+# names whose dash joins two functions, names that would fall together with a definition, field or ghost member, and an import's
+# other name
 GIVEN = {
     "length-bytesOf": "length-bytes_of",
     "length-putBytes": "length-put_bytes",
@@ -36,10 +37,17 @@ GIVEN = {
     "word-put": "word_put_lem",
     "and-then": "and_then_lem",
     "not-below": "not_below",
+    "marksEnd": "marks_bytes_end",
+    "seenAs": "seen_as",
 }
 
-# lemmas of one file that would fall together with a definition that the file cites
-LOCAL = {"crates/convert/proofs/Written.antt": {"put_word": "put_word_lem"}}
+# lemmas and helpers of one file that would fall together with a definition, a field or a ghost member
+LOCAL = {
+    "crates/convert/proofs/Written.antt": {"put_word": "put_word_lem"},
+    "crates/list_array/specs/OffsetLaws.antt": {"range_inside": "range_inside_lem"},
+    "crates/boolean_array/specs/BooleanArrayAccessorLemmas.antt": {"first": "first_number"},
+    "crates/primitive_array/specs/PrimitiveArrayAccessorLemmas.antt": {"first": "first_number"},
+}
 
 
 def antt():
@@ -91,7 +99,7 @@ def main():
     renames = {n: snake(n) for n in names if snake(n) != n}
     back = {}
     for old, new in sorted(renames.items()):
-        if new in back or (new in names and new not in ("marks_end", "one_more", "put_word", "range_inside")):
+        if new in back or (new in names and new not in ("one_more", "put_word", "range_inside")):
             sys.exit(f"respell: {old} and {back.get(new, new)} would fall together as {new}")
         back[new] = old
     files = antt() + sorted(glob.glob("crates/*/src/*.rt")) + sorted(glob.glob("crates/*/must-fail/*.edit"))

@@ -3,7 +3,7 @@ ghost use Rattle.layout.specs.Spans.{Span, Within, Alike, in_body};
 ghost use Rattle.layout.specs.Needs.{Needed};
 ghost use Rattle.history.specs.Entry.{Entry, is_absent};
 ghost use Rattle.history.specs.Moments.{Handle};
-ghost use Rattle.history.specs.Calls.{seen as seenAs};
+ghost use Rattle.history.specs.Calls.{seen as seen_as};
 ghost use Rattle.form.specs.declared.data_type.DataType.{DataType as Form};
 ghost use Rattle.slots.specs.Bounds.{length_limit};
 ghost use Rattle.slots.specs.Replies.{ask_reply, count_reply, find_reply, slice_reply};
@@ -65,7 +65,7 @@ pub trait Array: Sized {
     fn fits(&self, body: &[u8]) -> bool
         ensures { result ≡ in_body (spans self.now) body.now };
 
-    ghost sight: { (a : Self) → seen a ≡ seenAs (size a) (mark a) (shown a) (spans a) };
+    ghost sight: { (a : Self) → seen a ≡ seen_as (size a) (mark a) (shown a) (spans a) };
 
     ghost limit: { (a : Self) → size a ≤ length_limit };
 

@@ -2,5 +2,5 @@
 
 pub mod builder;
 pub mod leaf;
-pub mod slots;
 pub mod step;
+pub mod step_calls;

@@ -14,7 +14,7 @@ use Rattle.slots.specs.declared.slots.Slots.{Slots}
 use Rattle.slots.specs.Slots.{slot_spans}
 use Rattle.array.specs.Lists.{list_spans}
 use Rattle.slots.specs.Bounds.{length_limit}
-use Rattle.slots.specs.Trials.{and_then, bytes_end, marks_end, length_reply}
+use Rattle.slots.specs.Trials.{and_then, bytes_end, marks_bytes_end, length_reply}
 use Rattle.checks.specs.Checks.{child_reply, own_reply}
 
 -- where the meaning lies in the body, the count is taken
@@ -36,13 +36,13 @@ child_in ss b h = by (in_body ss b) h
 
 -- what the first tests of a list's trial say where they are passed
 pub own_taken : (g : Accounts) (b : List ℕ) (own : ℕ) (nulls : Option NullBuffer) (ss : List Span) → Ok tt ≡ own_reply g b own nulls ss
-    → (own ≤ g.loaded) × ((marks_end nulls ≤ g.loaded) × (in_body ss b ≡ true))
+    → (own ≤ g.loaded) × ((marks_bytes_end nulls ≤ g.loaded) × (in_body ss b ≡ true))
 own_taken g b own nulls ss h =
-    by (eqb (length b) g.length) (leb own g.loaded) (leb (marks_end nulls) g.loaded) (in_body ss b) refl refl refl h
+    by (eqb (length b) g.length) (leb own g.loaded) (leb (marks_bytes_end nulls) g.loaded) (in_body ss b) refl refl refl h
   where
-    by : (s t u v : Bool) → leb own g.loaded ≡ t → leb (marks_end nulls) g.loaded ≡ u → in_body ss b ≡ v
+    by : (s t u v : Bool) → leb own g.loaded ≡ t → leb (marks_bytes_end nulls) g.loaded ≡ u → in_body ss b ≡ v
         → ◌≡◌ {A = Result (Unit {0}) Stop} (Ok tt) (and_then (cond s (cond t (cond u (Ok tt) (Err (stopped BeyondBytes))) (Err (stopped BeyondBytes))) (Err (stopped BodyLengthDiffers))) (cond v (Ok tt) (Err (stopped BeyondBytes))))
-        → (own ≤ g.loaded) × ((marks_end nulls ≤ g.loaded) × (in_body ss b ≡ true))
+        → (own ≤ g.loaded) × ((marks_bytes_end nulls ≤ g.loaded) × (in_body ss b ≡ true))
     by true true true true p q r e = (leb-true _ _ p, (leb-true _ _ q, r))
     by true true true false p q r e = let z : ◌≡◌ {A = ℕ} 0 1 = cc in absurd (omega arith)
     by true true false v p q r e = let z : ◌≡◌ {A = ℕ} 0 1 = cc in absurd (omega arith)

@@ -5,7 +5,7 @@ ghost use Rattle.history.specs.Calls.{TrialLeads, StopLeads};
 ghost use Rattle.layout.specs.Spans.{in_body};
 ghost use Rattle.ledger.specs.Ledger.{accounts_of};
 ghost use Rattle.slots.specs.Slots.{slot_mark, slot_spans};
-ghost use Rattle.slots.specs.Trials.{and_then, marks_end, new_slots};
+ghost use Rattle.slots.specs.Trials.{and_then, marks_bytes_end, new_slots};
 ghost use Rattle.array.specs.Lists.{list_seen};
 ghost use Rattle.fixed_size_list_array.specs.Fixed.{fixed_range};
 ghost use Rattle.fixed_size_list_trial.specs.Trial.{mark_count, fixed_slots, shape_reply, absent_in, absent_under, under_reply, shaped_trial, fixed_trial};
@@ -60,7 +60,7 @@ fn shaped<C: Array + Copy>(
     nulls: Option<NullBuffer>,
     child: C,
 ) -> Result<FixedSizeListArray<C>, Stop>
-    requires { (marks_end nulls ≤ length body.now) × (in_body (C.Array.spans child) body.now ≡ true) }
+    requires { (marks_bytes_end nulls ≤ length body.now) × (in_body (C.Array.spans child) body.now ≡ true) }
     ensures { result ≡ shaped_trial field size nulls (C.Array.size child) (absent_under (slot_mark (new_slots (fixed_slots size (C.Array.size child) nulls) nulls) body.now) (C.Array.entry child body.now) size (fixed_slots size (C.Array.size child) nulls)) (C.Array.form child) (record { slots = new_slots (fixed_slots size (C.Array.size child) nulls) nulls; size = size; field = field; child = child }) }
 {
     let slots = fixed_slots(size, child.len(), nulls)?;

@@ -18,16 +18,16 @@ use Rattle.array.specs.Windows.{Range, Inside}
 use Rattle.list_array.specs.Offsets.{offset_of, pair_reply, range_of, pair_found, list_range, list_need, list_words}
 
 -- a range lies in its child
-pub range_inside : (size : ℕ) (x y : ℤ) → Inside size (range_of size x y)
-range_inside size (pos lo) (pos hi) = by (nat_le lo hi) (nat_le hi size) refl refl
+pub range_inside_lem : (size : ℕ) (x y : ℤ) → Inside size (range_of size x y)
+range_inside_lem size (pos lo) (pos hi) = by (nat_le lo hi) (nat_le hi size) refl refl
   where
     by : (t u : Bool) → nat_le lo hi ≡ t → nat_le hi size ≡ u → Inside size (cond t (cond u (Some (lo, hi)) None) None)
     by true true p q = (leb-true _ _ p, leb-true _ _ q)
     by true false p q = tt
     by false u p q = tt
-range_inside size (pos lo) (negsuc hi) = tt
-range_inside size (negsuc lo) (pos hi) = tt
-range_inside size (negsuc lo) (negsuc hi) = tt
+range_inside_lem size (pos lo) (negsuc hi) = tt
+range_inside_lem size (negsuc lo) (pos hi) = tt
+range_inside_lem size (negsuc lo) (negsuc hi) = tt
 
 -- a range of no entries at the front has offsets 0
 range_zero : (size : ℕ) (x y : ℤ) → range_of size x y ≡ Some (0, 0) → (x ≡ pos 0) × (y ≡ pos 0)
@@ -47,7 +47,7 @@ range_none w size = rw (signed_none w, le-leb 0 size (omega arith)) refl
 module _ (w place : ℕ) (s : Slots) (size : ℕ) where
   pub list_inside : (b : List ℕ) (i : ℕ) → i < s.len → Inside size (list_range w place s size b i)
   unfolding list_range
-  list_inside b i l = range_inside size (offset_of w place b (s.first + i)) (offset_of w place b (s.first + i + 1))
+  list_inside b i l = range_inside_lem size (offset_of w place b (s.first + i)) (offset_of w place b (s.first + i + 1))
 
   -- the two offsets of a slot are what its range is worked out from, to the last bit
   pub list_needed : (i : ℕ) → Needed (list_need w place s i) (λ b. list_range w place s size b i)

@@ -10,7 +10,7 @@ use Rattle.slots.specs.declared.null_buffer.NullBuffer.{NullBuffer}
 use Rattle.slots.specs.Slots.{slot_spans}
 use Rattle.slots.specs.declared.slots.Slots.{Slots}
 use Rattle.slots.specs.Bounds.{length_limit}
-use Rattle.slots.specs.Trials.{bytes_end, marks_end, marks_reply, new_slots}
+use Rattle.slots.specs.Trials.{bytes_end, marks_bytes_end, marks_reply, new_slots}
 use Rattle.slots.proofs.SameSlots.{new_len}
 use Rattle.slots.proofs.Leaves.{marks_loaded, own_loaded}
 use Rattle.array.specs.Lists.{list_seen}
@@ -30,7 +30,7 @@ some_offsets f count size h = by (eqb count 0) refl _ h
 -- a trial that is taken leads on
 pub list_leads : (w place count size : ℕ) (nulls : Option NullBuffer) (b : List ℕ) (loaded : ℕ) (f : List ℕ → ℕ → Entry) (child : List Span)
     → ((c d : List ℕ) → Alike child c d → (i : ℕ) → i < size → f c i ≡ f d i)
-    → bytes_end place (w * count) ≤ loaded → marks_end nulls ≤ loaded → count ≤ length_limit
+    → bytes_end place (w * count) ≤ loaded → marks_bytes_end nulls ≤ loaded → count ≤ length_limit
     → offsets_reply (offset_of w place b) count size ≡ Ok tt → marks_reply nulls (count - 1) ≡ Ok tt
     → TrialLeads b loaded child (list_seen (new_slots (count - 1) nulls) f (list_range w place (new_slots (count - 1) nulls) size) (list_words w place (new_slots (count - 1) nulls)) child)
 list_leads w place count size nulls b loaded f child law own marks few offsets seats =

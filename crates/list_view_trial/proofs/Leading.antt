@@ -10,7 +10,7 @@ use Rattle.slots.specs.declared.null_buffer.NullBuffer.{NullBuffer}
 use Rattle.slots.specs.declared.slots.Slots.{Slots}
 use Rattle.slots.specs.Slots.{slot_spans}
 use Rattle.slots.specs.Bounds.{length_limit}
-use Rattle.slots.specs.Trials.{bytes_end, marks_end, marks_reply, new_slots}
+use Rattle.slots.specs.Trials.{bytes_end, marks_bytes_end, marks_reply, new_slots}
 use Rattle.slots.proofs.SameSlots.{new_len}
 use Rattle.slots.proofs.Leaves.{marks_loaded, own_loaded}
 use Rattle.array.specs.Lists.{list_seen}
@@ -31,7 +31,7 @@ same_count starts sizes h = by (eqb sizes starts) refl h
 -- a trial that is taken leads on
 pub view_leads : (w : ℕ) (starts sizes : ScalarBuffer) (size : ℕ) (nulls : Option NullBuffer) (b : List ℕ) (loaded : ℕ) (f : List ℕ → ℕ → Entry) (child : List Span)
     → ((c d : List ℕ) → Alike child c d → (i : ℕ) → i < size → f c i ≡ f d i)
-    → view_own w starts sizes ≤ loaded → marks_end nulls ≤ loaded → starts.len ≤ length_limit
+    → view_own w starts sizes ≤ loaded → marks_bytes_end nulls ≤ loaded → starts.len ≤ length_limit
     → marks_reply nulls starts.len ≡ Ok tt → sizes_reply starts.len sizes.len ≡ Ok tt
     → TrialLeads b loaded child (list_seen (new_slots starts.len nulls) f (view_range w starts.place sizes.place (new_slots starts.len nulls) size) (view_words w starts.place sizes.place (new_slots starts.len nulls)) child)
 view_leads w starts sizes size nulls b loaded f child law own marks few seats same =

@@ -14,7 +14,7 @@ use Rattle.slots.specs.declared.null_buffer.NullBuffer.{NullBuffer}
 use Rattle.slots.specs.declared.slots.Slots.{Slots}
 use Rattle.slots.specs.Bounds.{length_limit}
 use Rattle.slots.specs.Slots.{slot_mark, slot_need, slot_spans, slots_cut}
-use Rattle.slots.specs.Trials.{and_then, bytes_end, bit_bytes, marks_end, marks_reply, marks_at, new_slots, leaf_reply, with_slots}
+use Rattle.slots.specs.Trials.{and_then, bytes_end, bit_bytes, marks_bytes_end, marks_reply, marks_at, new_slots, leaf_reply, with_slots}
 use Rattle.slots.proofs.SameSlots.{cut_len, cut_slots}
 
 -- the marks of a cut
@@ -42,7 +42,7 @@ null_absent_lem true e h = let z : ◌≡◌ {A = ℕ} 0 1 = cc in absurd (omega
 null_absent_lem false e h = refl
 
 -- the marks of a trial lie in the loaded bytes
-pub marks_loaded : (nulls : Option NullBuffer) (len loaded k : ℕ) → marks_end nulls ≤ loaded → marks_reply nulls len ≡ Ok tt → Within (mark_spans (marks_at nulls) len) k → k < 8 * loaded
+pub marks_loaded : (nulls : Option NullBuffer) (len loaded k : ℕ) → marks_bytes_end nulls ≤ loaded → marks_reply nulls len ≡ Ok tt → Within (mark_spans (marks_at nulls) len) k → k < 8 * loaded
 marks_loaded None len loaded k l e p = absurd p
 marks_loaded (Some m) len loaded k l e (inr p) = absurd p
 marks_loaded (Some m) len loaded k l e (inl p) = by (eqb m.len len) refl e
@@ -63,9 +63,9 @@ pub leaf_cases : {X : Type 0} (g : Accounts) (b : List ℕ) (own len : ℕ) (nul
     → ((e : Stop) → Q e)
     → MatchResult (with_slots f (leaf_reply g b own len nulls)) P Q
 leaf_cases g b own len nulls f P Q p q =
-    by (eqb (length b) g.length) (leb own g.loaded) (leb (marks_end nulls) g.loaded) (leb len length_limit) (marks_reply nulls len) refl refl refl refl
+    by (eqb (length b) g.length) (leb own g.loaded) (leb (marks_bytes_end nulls) g.loaded) (leb len length_limit) (marks_reply nulls len) refl refl refl refl
   where
-    by : (t u v w : Bool) (m : Result (Unit {0}) Stop) → leb own g.loaded ≡ u → leb (marks_end nulls) g.loaded ≡ v → leb len length_limit ≡ w → marks_reply nulls len ≡ m
+    by : (t u v w : Bool) (m : Result (Unit {0}) Stop) → leb own g.loaded ≡ u → leb (marks_bytes_end nulls) g.loaded ≡ v → leb len length_limit ≡ w → marks_reply nulls len ≡ m
         → MatchResult (with_slots f (and_then (cond t (cond u (cond v (Ok tt) (Err (stopped BeyondBytes))) (Err (stopped BeyondBytes))) (Err (stopped BodyLengthDiffers))) (and_then (cond w (Ok tt) (Err (stopped TooLarge))) (and_then m (Ok (new_slots len nulls)))))) P Q
     by false u v w m eu ev ew em = q (stopped BodyLengthDiffers)
     by true false v w m eu ev ew em = q (stopped BeyondBytes)

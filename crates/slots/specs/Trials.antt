@@ -23,16 +23,16 @@ abbrev pub bit_bytes : ℕ → ℕ
 bit_bytes n = (n + 7) / 8
 
 -- where the marks end
-abbrev pub marks_end : Option NullBuffer → ℕ
-marks_end None = 0
-marks_end (Some m) = bytes_end m.place (bit_bytes m.len)
+abbrev pub marks_bytes_end : Option NullBuffer → ℕ
+marks_bytes_end None = 0
+marks_bytes_end (Some m) = bytes_end m.place (bit_bytes m.len)
 
 -- a trial's first tests: the body is the ledger's, and the own bytes, which end at `own`, and the marks are loaded
 abbrev pub bytes_reply : Accounts → List ℕ → ℕ → Option NullBuffer → Result (Unit {0}) Stop
 bytes_reply g b own nulls =
     cond (length b == g.length)
     (cond (nat_le own g.loaded)
-    (cond (nat_le (marks_end nulls) g.loaded) (Ok tt) (Err (stopped BeyondBytes))) (Err (stopped BeyondBytes))) (Err (stopped BodyLengthDiffers))
+    (cond (nat_le (marks_bytes_end nulls) g.loaded) (Ok tt) (Err (stopped BeyondBytes))) (Err (stopped BeyondBytes))) (Err (stopped BodyLengthDiffers))
 
 -- a length is at most 2 ^ 62
 abbrev pub length_reply : ℕ → Result (Unit {0}) Stop

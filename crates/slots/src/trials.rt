@@ -1,6 +1,6 @@
 ghost use Rattle.std.specs.Prelude.{◌≡◌, ℕ, ◌+◌, ◌*◌, ◌/◌, ◌≤◌, Ok, Err};
 ghost use Rattle.ledger.specs.Ledger.{accounts_of};
-ghost use Rattle.slots.specs.Trials.{bytes_end, bit_bytes, marks_end, bytes_reply, length_reply, marks_reply, marks_at, new_slots, leaf_reply, and_then};
+ghost use Rattle.slots.specs.Trials.{bytes_end, bit_bytes, marks_bytes_end, bytes_reply, length_reply, marks_reply, marks_at, new_slots, leaf_reply, and_then};
 
 use crate::null_buffer::NullBuffer;
 use crate::slots::Slots;
@@ -41,7 +41,7 @@ pub fn bit_bytes(n: u64) -> u64
 
 // The end of the marks.
 fn marks_end(nulls: Option<NullBuffer>) -> u128
-    ensures { result ≡ marks_end nulls }
+    ensures { result ≡ marks_bytes_end nulls }
 {
     let Some(m) = nulls else {
         return 0;

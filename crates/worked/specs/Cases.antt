@@ -1,13 +1,12 @@
-use Rattle.std.specs.Prelude.{◌≡◌, ℕ, ◌+◌, ◌*◌, Bool, true, false, not, List, [], ◌∷◌, ℤ, pos, negsuc, Some, None, Ok, Err, Option, Result}
+use Rattle.std.specs.Prelude.{◌≡◌, ℕ, true, false, not, List, [], ◌∷◌, pos, Some, None, Ok, Err, Option, Result}
 use Rattle.std.specs.List.{AllByRecursion}
 use Rattle.ledger.specs.declared.stop.Stop.{Stop}
 use Rattle.ledger.specs.Stops.{number_of}
 use Rattle.ledger.specs.Ledger.{Accounts}
-use Rattle.form.specs.declared.data_type.DataType.{DataType}
 use Rattle.form.specs.declared.data_type.Field.{Field}
 use Rattle.form.specs.Forms.{leaf_form}
-use Rattle.history.specs.Entry.{Entry, Slot}
-use Rattle.history.specs.Entry.Entry.{absent, number, window}
+use Rattle.history.specs.Entry.{Entry}
+use Rattle.history.specs.Entry.Entry.{number, window}
 use Rattle.history.specs.Entry.Entries.{none, more}
 use Rattle.history.specs.Moments.{distance}
 use Rattle.slots.specs.declared.null_buffer.NullBuffer.{NullBuffer}
@@ -20,7 +19,6 @@ use Rattle.array.specs.Lists.{list_shown}
 use Rattle.primitive_array.specs.Numbers.{number_entry}
 use Rattle.list_array.specs.Offsets.{list_range, list_need}
 use Rattle.list_trial.specs.Trial.{list_reply}
-use Rattle.list_view_trial.specs.declared.scalar_buffer.ScalarBuffer.{ScalarBuffer}
 use Rattle.list_view_trial.specs.Trial.{view_trial}
 use Rattle.fixed_size_list_trial.specs.Trial.{fixed_slots, fixed_trial}
 use Rattle.convert.specs.Writing.{start_of, size_of}

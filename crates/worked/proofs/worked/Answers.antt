@@ -1,11 +1,9 @@
 use Rattle.std.proofs.Common.{refl}
 use lib.Count.{count_trailing_zeros}
-use Rattle.layout.specs.Bits.{zeros_from}
 use Rattle.layout.specs.Words.{word_at, signed_of}
 use Rattle.layout.specs.Needs.{each, counts}
 use Rattle.history.specs.Entry.{entries_from}
 use Rattle.list_array.specs.Offsets.{list_range}
-use Rattle.list_view_array.specs.Views.{view_range}
 use Rattle.list_trial.specs.Trial.{rises}
 use Rattle.list_view_trial.specs.Trial.{ends_reply}
 use Rattle.worked.proofs.worked.Goals as goal
