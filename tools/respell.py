@@ -5,7 +5,9 @@ usage: python3 tools/respell.py        at the top of the repository, once, after
 
 Definitions and ghost members in lower camel case, and lemmas and fields with dashes, become snake case, in src/, specs/, proofs/ and
 must-fail/ of every crate. Types, functions of src/, strings, inputs and outputs keep their names. A dash stays where it joins
-the names of two functions. Where a lemma would get the name of a definition or ghost member, it gets `_lem`.
+the names of two functions. Where a name would fall together with that of a definition, a field or a ghost
+member, it gets another one, told in GIVEN and LOCAL (a lemma gets `_lem`); so does the other name of one import. APART lists names
+that two modules have and no file sees twice.
 It prints what it renamed.
 """
 
@@ -48,6 +50,9 @@ LOCAL = {
     "crates/boolean_array/specs/BooleanArrayAccessorLemmas.antt": {"first": "first_number"},
     "crates/primitive_array/specs/PrimitiveArrayAccessorLemmas.antt": {"first": "first_number"},
 }
+
+# names of two modules of which no file sees both, or of which LOCAL turns one
+APART = ("one_more", "put_word", "range_inside")
 
 
 def antt():
@@ -99,7 +104,7 @@ def main():
     renames = {n: snake(n) for n in names if snake(n) != n}
     back = {}
     for old, new in sorted(renames.items()):
-        if new in back or (new in names and new not in ("one_more", "put_word", "range_inside")):
+        if new in back or (new in names and new not in APART):
             sys.exit(f"respell: {old} and {back.get(new, new)} would fall together as {new}")
         back[new] = old
     files = antt() + sorted(glob.glob("crates/*/src/*.rt")) + sorted(glob.glob("crates/*/must-fail/*.edit"))
