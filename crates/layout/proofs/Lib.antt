@@ -6,3 +6,4 @@ pub mod Sameness
 pub mod NeedLaws
 pub mod WordLaws
 pub mod WordNeeds
+mod NativeRanges

@@ -1,10 +1,11 @@
-use Rattle.std.proofs.Common.{◌≡◌, ℕ, zero, suc, ◌+◌, ◌-◌, ◌*◌, ◌/◌, ◌%◌, ◌^◌, ◌<◌, ◌≤◌, max, Bool, true, false, cond, ltb, leb, List, [], ◌∷◌, length, get_or, ℤ, pos, negsuc, sym, refl, ap, ◌∙◌, inl, inr, ⊎_elim, mul_assoc, pow-suc, mul-add, arith, lt-ltb}
+use Rattle.std.proofs.Common.{◌≡◌, ℕ, zero, suc, ◌+◌, ◌-◌, ◌*◌, ◌/◌, ◌%◌, ◌^◌, ◌<◌, ◌≤◌, max, Bool, true, false, cond, ltb, leb, List, [], ◌∷◌, length, get_or, pos, negsuc, sym, refl, ap, ◌∙◌, inl, inr, ⊎_elim, mul_assoc, mul-add, arith, lt-ltb}
 use native.Mathlib.Decide.{dec_le}
 use Rattle.std.proofs.lemmas.Nat.{pow-add, shr_high, pow_pos}
 use Rattle.layout.specs.Bits.{bit_at}
 use Rattle.layout.specs.Words.{word_at, word_of, signed_of}
 use Rattle.layout.specs.Spans.{span, word_span, Within, in_body}
 use Rattle.layout.specs.Needs.{Sways, Needed}
+use Rattle.layout.specs.NativeLaws.{pos_256}
 use Rattle.layout.proofs.OneBit.{one_bit, one_there, one_else}
 use Rattle.layout.proofs.Sameness.{word_alike}
 
@@ -93,30 +94,6 @@ words_in w p q b h l =
   where
     scale : (x y : ℕ) → leb (8 * x) (8 * y) ≡ leb x y
     scale x y = grind arith
-
-whole : ℤ → ℕ
-whole (pos n) = n
-whole (negsuc n) = 1
-
-pos_256 : (w : ℕ) → 2 * 0 < 256 ^ w
-pos_256 zero = omega arith
-pos_256 (suc w) = let h = pos_256 w in rw pow-suc (omega arith)
-
-pub signed_none : (w : ℕ) → signed_of w 0 ≡ pos 0
-unfolding signed_of
-signed_none w = rw (lt-ltb (2 * 0) (256 ^ w) (pos_256 w)) refl
-
--- a signed number is 0 only where its word is
-pub signed_alone : (w n : ℕ) → signed_of w n ≡ pos 0 → n ≡ 0
-unfolding signed_of whole
-signed_alone w n h = by (ltb (2 * n) (256 ^ w)) h
-  where
-    by : (t : Bool) → cond t (pos n) (negsuc (256 ^ w - suc n)) ≡ pos 0 → n ≡ 0
-    by true e = ap whole e
-    by false e = let z : ◌≡◌ {A = ℕ} 1 0 = ap whole e in absurd (omega arith)
-
-pub signed_zero : (w n : ℕ) → signed_of w n ≡ signed_of w 0 → n ≡ 0
-signed_zero w n h = signed_alone w n (h ∙ signed_none w)
 
 -- a number of w bytes, read as an unsigned number of 64 bits, is 0 only where its word is
 pub unsigned_alone : (w n : ℕ) → 256 ^ w ≤ 256 ^ 8 → word_of 8 (signed_of w n) ≡ 0 → n ≡ 0

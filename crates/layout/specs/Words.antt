@@ -21,6 +21,10 @@ word_of w (negsuc n) = 256 ^ w - suc n
 abbrev pub word_fits : List ℕ → ℕ → ℕ → Bool
 word_fits b p w = nat_le (p + w) (length b)
 
+-- what `of` makes of the word of w bytes at a place, or nothing where it does not lie in the body
+abbrev pub number_reply : {X : Type 0} → (ℕ → X) → ℕ → List ℕ → ℕ → Option X
+number_reply of w b p = cond (word_fits b p w) (Some (of (word_at b p w))) None
+
 -- the word of w bytes at a place, or nothing where it does not lie in the body
 abbrev pub word_reply : List ℕ → ℕ → ℕ → Option ℕ
 word_reply b p w = cond (word_fits b p w) (Some (word_at b p w)) None

@@ -3,4 +3,5 @@
 
 pub mod bits;
 pub mod marks;
+pub mod native;
 pub mod words;

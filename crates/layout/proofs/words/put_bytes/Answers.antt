@@ -18,4 +18,4 @@ returns g c =
     let bs = c.args.bytes in
     let step : put_bytes c.loop-i.body (c.args.at + i) (drop i bs) ≡ c.loop-i.body
     = at_drop_all (put_bytes c.loop-i.body (c.args.at + i)) bs i (search rules) in
-    sym step ∙ c.loop-i.invariant
+    record { fits = search rules; leaves = sym step ∙ c.loop-i.invariant }

@@ -1,0 +1,15 @@
+use Rattle.std.proofs.Common.{ap, ◌∙◌, w32, SFits, to_z, of_z, rules}
+use Rattle.std.proofs.lemmas.Int.{to_z-of_z}
+use Rattle.layout.specs.Words.{signed_of, word_at}
+use Rattle.layout.proofs.WordSums.{made_of_bytes, taken_4, signed_32}
+use Rattle.layout.proofs.native.I32ArrowNativeType.read.Goals as goal
+
+pub returns : goal.returns
+returns c =
+    let b = c.args.body.now in
+    let p = c.args.at in
+    let bs = c.in_ok-bytes.bytes in
+    let r = c.from_le_bytes.result in
+    let f : SFits w32 r = search rules in
+    made_of_bytes (signed_of 4) 4 b p bs (to_z w32 (of_z w32 r)) c.in_ok-bytes.ensures
+    (λ e. to_z-of_z w32 r f ∙ c.from_le_bytes.ensures ∙ ap (to_z w32) (taken_4 b p c.type_inv.body bs e) ∙ signed_32 (word_at b p 4))
