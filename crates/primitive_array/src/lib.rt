@@ -71,7 +71,7 @@ fn tried<T: ArrowPrimitiveType>(
 impl<T: ArrowPrimitiveType> Array for PrimitiveArray<T> {
     ghost size = { λ a. a.slots.len };
 
-    ghost form = { λ a. leaf_form T.ArrowPrimitiveType.digit };
+    ghost form = { λ a. leaf_form T.ArrowPrimitiveType.DIGIT };
 
     ghost mark = { λ a. slot_mark a.slots };
 

@@ -1,32 +1,50 @@
-ghost use Rattle.std.specs.Prelude.{◌≡◌, ℕ, ◌⊎◌, ℤ, pos};
+ghost use Rattle.std.specs.Prelude.{◌≡◌, ℕ, ℤ, pos};
 ghost use Rattle.form.specs.Forms.{leaf_form};
 ghost use Rattle.layout.specs.Words.{signed_of};
 ghost use Rattle.primitive_array.specs.Wholes.{whole_reply};
 ghost use Rattle.std.proofs.Common.{rules};
-ghost use Rattle.layout.proofs.WordNeeds.{signed_zero};
+ghost use Rattle.layout.specs.NativeLaws.{signed_zero};
 
 use form::data_type::DataType;
-use layout::words::{get_i32, get_i64, get_u16};
+use layout::native::ArrowNativeType;
+use layout::words::get;
 
-// A kind of numbers: how many bytes one has, its form digit, and what its word means.
+// A kind of number leaves: the numbers that it holds, its form digit, and what a word of it means.
 pub trait ArrowPrimitiveType {
+    type Native: ArrowNativeType;
+
     ghost width: { ℕ };
 
-    ghost digit: { ℕ };
+    ghost DIGIT: { ℕ };
+
+    const DIGIT: u8;
     // The whole number of a word.
     ghost whole: { ℕ → ℤ };
 
     fn width() -> u64
-        ensures { result ≡ width };
+        ensures { result ≡ width }
+    {
+        Self::Native::WIDTH
+    }
 
     fn data_type() -> DataType
-        ensures { result ≡ leaf_form digit };
+        ensures { result ≡ leaf_form DIGIT }
+    {
+        DataType::leaf(Self::DIGIT)
+    }
 
     // The number at a place, or nothing where it does not lie in the body.
     fn read(body: &[u8], at: u64) -> Option<i64>
-        ensures { result ≡ whole_reply whole width body.now at };
+        ensures { result ≡ whole_reply whole width body.now at }
+    {
+        let number = get::<Self::Native>(body, at)?;
+        Some(number.to_i64())
+    }
 
-    ghost known: { (width ≡ 2) ⊎ ((width ≡ 4) ⊎ (width ≡ 8)) };
+    // Both are those of the numbers that it holds.
+    ghost native_width: { Self.Native.WIDTH ≡ width };
+
+    ghost native_whole: { (n : ℕ) → Self.Native.whole (Self.Native.of_word n) ≡ whole n };
 
     // No word but 0 reads as 0 does.
     ghost zero_alone: { (n : ℕ) → whole n ≡ whole 0 → n ≡ 0 };
@@ -42,79 +60,55 @@ pub struct Int32Type;
 pub struct Int64Type;
 
 impl ArrowPrimitiveType for UInt16Type {
+    type Native = u16;
+
     ghost width = { 2 };
 
-    ghost digit = { 3 };
+    ghost DIGIT = { 3 };
+
+    const DIGIT: u8 = 3;
 
     ghost whole = { pos };
 
-    ghost known = { Prim.search rules };
+    ghost native_width = { Prim.search rules };
+
+    ghost native_whole = { Prim.search rules };
 
     ghost zero_alone = { Prim.search rules };
-
-    fn width() -> u64 {
-        2
-    }
-
-    fn data_type() -> DataType {
-        DataType::leaf(3)
-    }
-
-    fn read(body: &[u8], at: u64) -> Option<i64> {
-        match get_u16(body, at) {
-            Some(v) => Some(i64::from(v)),
-            None => None,
-        }
-    }
 }
 
 impl ArrowPrimitiveType for Int32Type {
+    type Native = i32;
+
     ghost width = { 4 };
 
-    ghost digit = { 4 };
+    ghost DIGIT = { 4 };
+
+    const DIGIT: u8 = 4;
 
     ghost whole = { signed_of 4 };
 
-    ghost known = { Prim.search rules };
+    ghost native_width = { Prim.search rules };
+
+    ghost native_whole = { Prim.search rules };
 
     ghost zero_alone = { λ n h. signed_zero 4 n h };
-
-    fn width() -> u64 {
-        4
-    }
-
-    fn data_type() -> DataType {
-        DataType::leaf(4)
-    }
-
-    fn read(body: &[u8], at: u64) -> Option<i64> {
-        match get_i32(body, at) {
-            Some(v) => Some(i64::from(v)),
-            None => None,
-        }
-    }
 }
 
 impl ArrowPrimitiveType for Int64Type {
+    type Native = i64;
+
     ghost width = { 8 };
 
-    ghost digit = { 5 };
+    ghost DIGIT = { 5 };
+
+    const DIGIT: u8 = 5;
 
     ghost whole = { signed_of 8 };
 
-    ghost known = { Prim.search rules };
+    ghost native_width = { Prim.search rules };
+
+    ghost native_whole = { Prim.search rules };
 
     ghost zero_alone = { λ n h. signed_zero 8 n h };
-
-    fn width() -> u64 {
-        8
-    }
-
-    fn data_type() -> DataType {
-        DataType::leaf(5)
-    }
-
-    fn read(body: &[u8], at: u64) -> Option<i64> {
-        get_i64(body, at)
-    }
 }

@@ -78,7 +78,7 @@ impl<T: ArrowNativeType> ArrayBuilder for PrimitiveBuilder<T> {
 
     ghost count = { λ a. a.rows.count };
 
-    ghost means = { λ a b. leaf_means (λ v. is_some (T.ArrowNativeType.word v)) (leaf_form T.ArrowPrimitiveType.digit) (number_leaf T.ArrowPrimitiveType.width T.ArrowPrimitiveType.whole a.rows a.numbers b) };
+    ghost means = { λ a b. leaf_means (λ v. is_some (T.ArrowNativeType.word v)) (leaf_form T.ArrowPrimitiveType.DIGIT) (number_leaf T.ArrowPrimitiveType.width T.ArrowPrimitiveType.whole a.rows a.numbers b) };
 
     ghost shown = { λ a b i. (leaf_slot (number_row T.ArrowPrimitiveType.width T.ArrowPrimitiveType.whole a.rows a.numbers b i)).entry };
 
@@ -98,9 +98,9 @@ impl<T: ArrowNativeType> ArrayBuilder for PrimitiveBuilder<T> {
 
     ghost counted = { λ a b. leaf_count (number_row T.ArrowPrimitiveType.width T.ArrowPrimitiveType.whole a.rows a.numbers b) a.rows.count };
 
-    ghost lawful = { λ a b. leaf_lawful (λ v. is_some (T.ArrowNativeType.word v)) (leaf_form T.ArrowPrimitiveType.digit) (number_leaf T.ArrowPrimitiveType.width T.ArrowPrimitiveType.whole a.rows a.numbers b) };
+    ghost lawful = { λ a b. leaf_lawful (λ v. is_some (T.ArrowNativeType.word v)) (leaf_form T.ArrowPrimitiveType.DIGIT) (number_leaf T.ArrowPrimitiveType.width T.ArrowPrimitiveType.whole a.rows a.numbers b) };
 
-    ghost framed = { λ a b c h. ap (leaf_means (λ v. is_some (T.ArrowNativeType.word v)) (leaf_form T.ArrowPrimitiveType.digit)) (number_framed T.ArrowPrimitiveType.width T.ArrowPrimitiveType.whole a.rows a.numbers b c h) };
+    ghost framed = { λ a b c h. ap (leaf_means (λ v. is_some (T.ArrowNativeType.word v)) (leaf_form T.ArrowPrimitiveType.DIGIT)) (number_framed T.ArrowPrimitiveType.width T.ArrowPrimitiveType.whole a.rows a.numbers b c h) };
 
     ghost owned = { λ a i. number_owned T.ArrowPrimitiveType.width T.ArrowPrimitiveType.whole a.rows a.numbers a.length i };
 
@@ -112,7 +112,7 @@ impl<T: ArrowNativeType> ArrayBuilder for PrimitiveBuilder<T> {
 
     ghost keeps_apart = { Prim.search rules };
 
-    ghost goes = { λ a b d s i q l e. number_goes T.ArrowPrimitiveType.width T.ArrowPrimitiveType.whole T.ArrowNativeType.word T.ArrowNativeType.zero_word T.ArrowNativeType.word_read (leaf_form T.ArrowPrimitiveType.digit) a.length a.rows a.numbers b d s i l e };
+    ghost goes = { λ a b d s i q l e. number_goes T.ArrowPrimitiveType.width T.ArrowPrimitiveType.whole T.ArrowNativeType.word T.ArrowNativeType.zero_word T.ArrowNativeType.word_read (leaf_form T.ArrowPrimitiveType.DIGIT) a.length a.rows a.numbers b d s i l e };
 
     ghost shot_form = { Prim.search rules };
 
