@@ -1,10 +1,10 @@
-ghost use Rattle.std.specs.Prelude.{◌≡◌, ℕ, suc, ◌+◌, ◌/◌, ◌%◌, ◌≤◌, ◌⊎◌, pos, Some};
+ghost use Rattle.std.specs.Prelude.{◌≡◌, ℕ, suc, ◌+◌, ◌*◌, ◌/◌, ◌%◌, ◌≤◌, ◌⊎◌, pos, Some};
 ghost use Rattle.layout.specs.Words.{signed_of, signed_reply, word_fits, written};
 ghost use Rattle.array.specs.Offsets.{largest_of};
 ghost use Rattle.std.proofs.Common.{rules};
 
 use layout::native::ArrowNativeType;
-use layout::words::{get, put};
+use layout::words::{get, get_nth, put};
 
 // A kind of offsets: signed numbers of four or eight bytes.
 pub trait OffsetSizeTrait: ArrowNativeType {
@@ -39,6 +39,14 @@ pub trait OffsetSizeTrait: ArrowNativeType {
         ensures { result ≡ signed_reply body.now at Self.WIDTH }
     {
         let offset = get::<Self>(body, at)?;
+        Some(offset.to_i64())
+    }
+
+    // Offset number k of those that lie one behind the other from a place on.
+    fn read_nth(body: &[u8], place: u64, k: u64) -> Option<i64>
+        ensures { result ≡ signed_reply body.now (place + Self.WIDTH * k) Self.WIDTH }
+    {
+        let offset = get_nth::<Self>(body, place, k)?;
         Some(offset.to_i64())
     }
 

@@ -6,13 +6,13 @@ use ledger::stop::{Reason, Stop};
 use rows::check_places;
 use rows::rows::Rows;
 
-// The mark of a row that a step at a leaf writes.
-pub fn leaf_mark(step: Step) -> bool
-    ensures { result ≡ (leaf_row step).0 }
+// The mark and the number of a row that a step at a leaf writes; a null's number is 0.
+pub fn leaf_row(step: Step) -> (bool, i64)
+    ensures { result ≡ leaf_row step }
 {
     match step {
-        Step::Value(_) => true,
-        Step::Null | Step::Nulls(_) | Step::Close(_) => false,
+        Step::Value(v) => (true, v),
+        Step::Null | Step::Nulls(_) | Step::Close(_) => (false, 0),
     }
 }
 

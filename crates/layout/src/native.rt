@@ -22,11 +22,11 @@ pub trait ArrowNativeType: Copy {
     ghost word: { ℤ → Option ℕ };
 
     // The number at a place, or nothing where its word does not lie in the body.
-    fn read(body: &[u8], at: u64) -> Option<Self>
+    fn read_le(body: &[u8], at: u64) -> Option<Self>
         ensures { result ≡ number_reply of_word WIDTH body.now at };
 
     // Writes the number at a place; false, and nothing written, where its word does not lie in the body.
-    fn write(self, body: &mut [u8], at: u64) -> bool
+    fn write_le(self, body: &mut [u8], at: u64) -> bool
         ensures fits { result ≡ word_fits body.old at WIDTH }
         ensures leaves { body.new ≡ written WIDTH body.old at (to_word self) };
 
@@ -79,12 +79,12 @@ impl ArrowNativeType for u16 {
 
     ghost zero_alone = { Prim.search rules };
 
-    fn read(body: &[u8], at: u64) -> Option<u16> {
+    fn read_le(body: &[u8], at: u64) -> Option<u16> {
         let bytes = bytes_at(body, at)?;
         Some(u16::from_le_bytes(bytes))
     }
 
-    fn write(self, body: &mut [u8], at: u64) -> bool {
+    fn write_le(self, body: &mut [u8], at: u64) -> bool {
         put_bytes(body, at, u16::to_le_bytes(self))
     }
 
@@ -122,12 +122,12 @@ impl ArrowNativeType for i32 {
 
     ghost zero_alone = { λ n h. signed_zero 4 n h };
 
-    fn read(body: &[u8], at: u64) -> Option<i32> {
+    fn read_le(body: &[u8], at: u64) -> Option<i32> {
         let bytes = bytes_at(body, at)?;
         Some(i32::from_le_bytes(bytes))
     }
 
-    fn write(self, body: &mut [u8], at: u64) -> bool {
+    fn write_le(self, body: &mut [u8], at: u64) -> bool {
         put_bytes(body, at, i32::to_le_bytes(self))
     }
 
@@ -165,12 +165,12 @@ impl ArrowNativeType for i64 {
 
     ghost zero_alone = { λ n h. signed_zero 8 n h };
 
-    fn read(body: &[u8], at: u64) -> Option<i64> {
+    fn read_le(body: &[u8], at: u64) -> Option<i64> {
         let bytes = bytes_at(body, at)?;
         Some(i64::from_le_bytes(bytes))
     }
 
-    fn write(self, body: &mut [u8], at: u64) -> bool {
+    fn write_le(self, body: &mut [u8], at: u64) -> bool {
         put_bytes(body, at, i64::to_le_bytes(self))
     }
 

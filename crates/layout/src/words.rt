@@ -11,7 +11,7 @@ pub fn get<T: ArrowNativeType>(body: &[u8], at: u64) -> Option<T>
     ensures alike { AlikeReadAlike }
     ensures complement { TwosComplement }
 {
-    T::read(body, at)
+    T::read_le(body, at)
 }
 
 // Number k of those that lie one behind the other from a place on.
@@ -38,7 +38,7 @@ pub fn put<T: ArrowNativeType>(body: &mut [u8], at: u64, number: T) -> bool
     ensures others { OthersStay }
     ensures signed { SignedIsRead }
 {
-    number.write(body, at)
+    number.write_le(body, at)
 }
 
 // Writes a number as number k of those that lie one behind the other from a place on.

@@ -9,7 +9,8 @@ use Rattle.ledger.specs.Stops.{stopped}
 use Rattle.layout.specs.Words.{signed_of}
 use Rattle.layout.specs.Spans.{Within, Alike, in_body}
 use Rattle.layout.specs.Needs.{Needed}
-use Rattle.layout.proofs.WordNeeds.{words_needed, words_in, signed_none, signed_alone}
+use Rattle.layout.specs.NativeLaws.{signed_none, signed_alone}
+use Rattle.layout.proofs.WordNeeds.{words_needed, words_in}
 use Rattle.slots.specs.declared.slots.Slots.{Slots}
 use Rattle.slots.specs.Slots.{slots_cut}
 use Rattle.slots.specs.Replies.{found}

@@ -24,19 +24,10 @@ pub mod list_array;
 
 // The offsets numbered k and k + 1 after a place, or nothing where one lies beyond the body.
 pub fn offset_pair<O: OffsetSizeTrait>(body: &[u8], place: u64, k: u64) -> Option<(i64, i64)>
-    ensures { result ≡ pair_reply O.OffsetSizeTrait.width place body.now k }
+    ensures { result ≡ pair_reply O.WIDTH place body.now k }
 {
-    let w = O::width();
-    let at = place as u128 + w as u128 * k as u128;
-    if at + w as u128 + w as u128 > body.len() as u128 {
-        return None;
-    }
-    let Some(lo) = O::read(body, at as u64) else {
-        return None;
-    };
-    let Some(hi) = O::read(body, at as u64 + w) else {
-        return None;
-    };
+    let lo = O::read_nth(body, place, k)?;
+    let hi = O::read_nth(body, place, k.checked_add(1)?)?;
     Some((lo, hi))
 }
 
@@ -57,7 +48,7 @@ fn range_at<O: OffsetSizeTrait>(
     k: u64,
     size: u64,
 ) -> Result<(u64, u64), Stop>
-    ensures { result ≡ pair_found size (pair_reply O.OffsetSizeTrait.width place body.now k) }
+    ensures { result ≡ pair_found size (pair_reply O.WIDTH place body.now k) }
 {
     let Some((lo, hi)) = offset_pair::<O>(body, place, k) else {
         return Err(Stop::new(Reason::BeyondBytes));
@@ -71,23 +62,23 @@ fn range_at<O: OffsetSizeTrait>(
 impl<O: OffsetSizeTrait, C: Array + Copy> Array for GenericListArray<O, C> {
     ghost size = { λ a. a.slots.len };
 
-    ghost form = { λ a. layer_form (C.Array.form a.child) (8 + O.OffsetSizeTrait.width / 8) };
+    ghost form = { λ a. layer_form (C.Array.form a.child) (8 + O.WIDTH / 8) };
 
     ghost mark = { λ a. slot_mark a.slots };
 
     ghost mark_need = { λ a. slot_need a.slots };
 
-    ghost entry = { λ a. list_entry a.slots (C.Array.entry a.child) (list_range O.OffsetSizeTrait.width a.place a.slots (C.Array.size a.child)) };
+    ghost entry = { λ a. list_entry a.slots (C.Array.entry a.child) (list_range O.WIDTH a.place a.slots (C.Array.size a.child)) };
 
     ghost absent_need = { λ a. slot_need a.slots };
 
-    ghost shown = { λ a. list_shown (C.Array.entry a.child) (list_range O.OffsetSizeTrait.width a.place a.slots (C.Array.size a.child)) };
+    ghost shown = { λ a. list_shown (C.Array.entry a.child) (list_range O.WIDTH a.place a.slots (C.Array.size a.child)) };
 
-    ghost spans = { λ a. list_spans a.slots (list_words O.OffsetSizeTrait.width a.place a.slots) (C.Array.spans a.child) };
+    ghost spans = { λ a. list_spans a.slots (list_words O.WIDTH a.place a.slots) (C.Array.spans a.child) };
 
     ghost cut = { λ a s n. record { place = a.place; slots = slots_cut a.slots s n; field = a.field; child = a.child; kind = a.kind } };
 
-    ghost seen = { λ a. list_seen a.slots (C.Array.entry a.child) (list_range O.OffsetSizeTrait.width a.place a.slots (C.Array.size a.child)) (list_words O.OffsetSizeTrait.width a.place a.slots) (C.Array.spans a.child) };
+    ghost seen = { λ a. list_seen a.slots (C.Array.entry a.child) (list_range O.WIDTH a.place a.slots (C.Array.size a.child)) (list_words O.WIDTH a.place a.slots) (C.Array.spans a.child) };
 
     ghost sight = { Prim.search rules };
 
@@ -99,21 +90,21 @@ impl<O: OffsetSizeTrait, C: Array + Copy> Array for GenericListArray<O, C> {
 
     ghost mark_needs = { λ a i l. mark_needed a.slots.marks i };
 
-    ghost absent_needs = { λ a i l. list_absence a.slots i (C.Array.entry a.child) (list_range O.OffsetSizeTrait.width a.place a.slots (C.Array.size a.child)) };
+    ghost absent_needs = { λ a i l. list_absence a.slots i (C.Array.entry a.child) (list_range O.WIDTH a.place a.slots (C.Array.size a.child)) };
 
     ghost mark_alike = { λ a.
-        let w = O.OffsetSizeTrait.width in
+        let w = O.WIDTH in
         let size = C.Array.size a.child in
         list_mark_alike a.slots size (C.Array.entry a.child) (list_range w a.place a.slots size) (list_words w a.place a.slots) (C.Array.spans a.child) };
 
     ghost entry_alike = { λ a.
-        let w = O.OffsetSizeTrait.width in
+        let w = O.WIDTH in
         let size = C.Array.size a.child in
         list_entry_alike a.slots size (C.Array.entry a.child) (list_range w a.place a.slots size) (list_words w a.place a.slots) (C.Array.spans a.child)
         (list_inside w a.place a.slots size) (list_range_alike w a.place a.slots size) (C.Array.entry_alike a.child) };
 
     ghost shown_alike = { λ a.
-        let w = O.OffsetSizeTrait.width in
+        let w = O.WIDTH in
         let size = C.Array.size a.child in
         list_shown_alike a.slots size (C.Array.entry a.child) (list_range w a.place a.slots size) (list_words w a.place a.slots) (C.Array.spans a.child)
         (list_inside w a.place a.slots size) (list_range_alike w a.place a.slots size) (C.Array.entry_alike a.child) };
@@ -124,12 +115,12 @@ impl<O: OffsetSizeTrait, C: Array + Copy> Array for GenericListArray<O, C> {
 
     ghost cut_mark = { λ a s n l b i h. slots_mark a.slots s n l b i };
 
-    ghost cut_entry = { λ a s n l b i h. rw (slots_mark a.slots s n l b i, list_range_cut O.OffsetSizeTrait.width a.place a.slots (C.Array.size a.child) s n l b i) refl };
+    ghost cut_entry = { λ a s n l b i h. rw (slots_mark a.slots s n l b i, list_range_cut O.WIDTH a.place a.slots (C.Array.size a.child) s n l b i) refl };
 
-    ghost cut_shown = { λ a s n l b i h. ap (window_in (C.Array.entry a.child b)) (list_range_cut O.OffsetSizeTrait.width a.place a.slots (C.Array.size a.child) s n l b i) };
+    ghost cut_shown = { λ a s n l b i h. ap (window_in (C.Array.entry a.child b)) (list_range_cut O.WIDTH a.place a.slots (C.Array.size a.child) s n l b i) };
 
     ghost cut_spans = { λ a s n l.
-        let w = O.OffsetSizeTrait.width in
+        let w = O.WIDTH in
         list_within a.slots s n (list_words w a.place a.slots) (list_words w a.place (slots_cut a.slots s n)) (C.Array.spans a.child) (C.Array.spans a.child) l
         (list_words_cut w a.place a.slots (C.Array.size a.child) s n l) (λ k p. p) };
 
@@ -184,13 +175,13 @@ impl<O: OffsetSizeTrait, C: Array + Copy> ListLikeArray for GenericListArray<O, 
 
     ghost child = { λ a. a.child };
 
-    ghost range = { λ a. list_range O.OffsetSizeTrait.width a.place a.slots (C.Array.size a.child) };
+    ghost range = { λ a. list_range O.WIDTH a.place a.slots (C.Array.size a.child) };
 
-    ghost range_need = { λ a. list_need O.OffsetSizeTrait.width a.place a.slots };
+    ghost range_need = { λ a. list_need O.WIDTH a.place a.slots };
 
-    ghost range_needs = { λ a i l. list_needed O.OffsetSizeTrait.width a.place a.slots (C.Array.size a.child) i };
+    ghost range_needs = { λ a i l. list_needed O.WIDTH a.place a.slots (C.Array.size a.child) i };
 
-    ghost range_inside = { λ a b i l. list_inside O.OffsetSizeTrait.width a.place a.slots (C.Array.size a.child) b i l };
+    ghost range_inside = { λ a b i l. list_inside O.WIDTH a.place a.slots (C.Array.size a.child) b i l };
 
     ghost shown_window = { Prim.search rules };
 
@@ -211,23 +202,23 @@ impl<O: OffsetSizeTrait, C: Array + Copy> ListLikeArray for GenericListArray<O, 
 impl<O: OffsetSizeTrait, C: Array + Copy> ArrayAccessor for GenericListArray<O, C> {
     type Item = C;
 
-    ghost item = { λ a b i. slice_in (C.Array.cut a.child) (list_range O.OffsetSizeTrait.width a.place a.slots (C.Array.size a.child) b i) };
+    ghost item = { λ a b i. slice_in (C.Array.cut a.child) (list_range O.WIDTH a.place a.slots (C.Array.size a.child) b i) };
 
-    ghost source = { λ a b i. range_numbers (list_range O.OffsetSizeTrait.width a.place a.slots (C.Array.size a.child) b i) };
+    ghost source = { λ a b i. range_numbers (list_range O.WIDTH a.place a.slots (C.Array.size a.child) b i) };
 
-    ghost item_need = { λ a. list_need O.OffsetSizeTrait.width a.place a.slots };
+    ghost item_need = { λ a. list_need O.WIDTH a.place a.slots };
 
     ghost told = { λ h b. whole_window (C.Array.size h) (C.Array.entry h b) };
 
     ghost item_needs = { λ a i l.
-        let w = O.OffsetSizeTrait.width in
+        let w = O.WIDTH in
         let cs = C.Array.size a.child in
         needed_into (list_need w a.place a.slots i) (λ b. list_range w a.place a.slots cs b i) range_numbers range_apart (list_needed w a.place a.slots cs i) };
 
     ghost item_from = { λ a b c i l e. ap (slice_in (C.Array.cut a.child)) (range_apart _ _ e) };
 
     ghost item_told = { λ a b i x l e m.
-        let w = O.OffsetSizeTrait.width in
+        let w = O.WIDTH in
         let cs = C.Array.size a.child in
         rw m (item_told_lem cs (C.Array.entry a.child b) (C.Array.cut a.child) C.Array.size (λ h. C.Array.entry h b) (list_range w a.place a.slots cs b i) (list_inside w a.place a.slots cs b i l)
         (λ s n k. C.Array.cut_size a.child s n k) (λ s n k j q. C.Array.cut_entry a.child s n k b j q) x e) };

@@ -33,8 +33,8 @@ pub fn try_new<O: OffsetSizeTrait, C: Array + Copy>(
     nulls: Option<NullBuffer>,
     child: C,
 ) -> Result<GenericListArray<O, C>, Stop>
-    ensures answers { result ≡ list_reply O.OffsetSizeTrait.width (accounts_of ledger.now) body.now field place count nulls (C.Array.size child) (C.Array.spans child) (Ok (absents (C.Array.size child) (C.Array.entry child body.now))) (C.Array.form child) (record { place = place; slots = new_slots (count - 1) nulls; field = field; child = child; kind = record {} }) }
-    ensures leads { MatchResult result (λ h. TrialLeads body.now (accounts_of ledger.now).loaded (C.Array.spans child) (list_seen h.slots (C.Array.entry h.child) (list_range O.OffsetSizeTrait.width h.place h.slots (C.Array.size h.child)) (list_words O.OffsetSizeTrait.width h.place h.slots) (C.Array.spans h.child))) (λ _. StopLeads) }
+    ensures answers { result ≡ list_reply O.WIDTH (accounts_of ledger.now) body.now field place count nulls (C.Array.size child) (C.Array.spans child) (Ok (absents (C.Array.size child) (C.Array.entry child body.now))) (C.Array.form child) (record { place = place; slots = new_slots (count - 1) nulls; field = field; child = child; kind = record {} }) }
+    ensures leads { MatchResult result (λ h. TrialLeads body.now (accounts_of ledger.now).loaded (C.Array.spans child) (list_seen h.slots (C.Array.entry h.child) (list_range O.WIDTH h.place h.slots (C.Array.size h.child)) (list_words O.WIDTH h.place h.slots) (C.Array.spans h.child))) (λ _. StopLeads) }
 {
     tried(ledger, body, field, place, count, nulls, child)
 }
@@ -48,7 +48,7 @@ fn tried<O: OffsetSizeTrait, C: Array + Copy>(
     nulls: Option<NullBuffer>,
     child: C,
 ) -> Result<GenericListArray<O, C>, Stop>
-    ensures { result ≡ list_reply O.OffsetSizeTrait.width (accounts_of ledger.now) body.now field place count nulls (C.Array.size child) (C.Array.spans child) (count_reply (C.Array.size child) (C.Array.absent_need child) (λ j. is_absent (C.Array.entry child body.now j)) body.now) (C.Array.form child) (record { place = place; slots = new_slots (count - 1) nulls; field = field; child = child; kind = record {} }) }
+    ensures { result ≡ list_reply O.WIDTH (accounts_of ledger.now) body.now field place count nulls (C.Array.size child) (C.Array.spans child) (count_reply (C.Array.size child) (C.Array.absent_need child) (λ j. is_absent (C.Array.entry child body.now j)) body.now) (C.Array.form child) (record { place = place; slots = new_slots (count - 1) nulls; field = field; child = child; kind = record {} }) }
 {
     check_own(
         ledger,
@@ -72,14 +72,10 @@ fn tried<O: OffsetSizeTrait, C: Array + Copy>(
 
 // Offset number k after a place, which lies in the body.
 fn offset_in<O: OffsetSizeTrait>(body: &[u8], place: u64, k: u64) -> i64
-    requires { place + O.OffsetSizeTrait.width * (k + 1) ≤ length body.now }
-    ensures { result ≡ offset_of O.OffsetSizeTrait.width place body.now k }
+    requires { place + O.WIDTH * (k + 1) ≤ length body.now }
+    ensures { result ≡ offset_of O.WIDTH place body.now k }
 {
-    let at = place as u128 + O::width() as u128 * k as u128;
-    match O::read(body, at as u64) {
-        Some(v) => v,
-        None => 0,
-    }
+    O::read_nth(body, place, k).unwrap_or(0)
 }
 
 // The offsets' own tests.
@@ -89,8 +85,8 @@ fn check_offsets<O: OffsetSizeTrait>(
     count: u64,
     size: u64,
 ) -> Result<(), Stop>
-    requires { 0 < count → place + O.OffsetSizeTrait.width * count ≤ length body.now }
-    ensures { result ≡ offsets_reply (offset_of O.OffsetSizeTrait.width place body.now) count size }
+    requires { 0 < count → place + O.WIDTH * count ≤ length body.now }
+    ensures { result ≡ offsets_reply (offset_of O.WIDTH place body.now) count size }
 {
     if count == 0 {
         return Err(Stop::new(Reason::NoOffsets));

@@ -9,7 +9,8 @@ use Rattle.layout.specs.Words.{word_of, signed_of}
 use Rattle.layout.specs.Spans.{Within, Alike, in_body}
 use Rattle.layout.specs.Needs.{Needed}
 use Rattle.layout.proofs.Sameness.{word_alike}
-use Rattle.layout.proofs.WordNeeds.{words_needed, words_inside, signed_none, unsigned_alone}
+use Rattle.layout.specs.NativeLaws.{signed_none}
+use Rattle.layout.proofs.WordNeeds.{words_needed, words_inside, unsigned_alone}
 use Rattle.slots.specs.declared.slots.Slots.{Slots}
 use Rattle.slots.specs.Slots.{slots_cut}
 use Rattle.slots.specs.Replies.{found}

@@ -2,7 +2,6 @@
 
 ghost use Rattle.std.specs.Prelude.{◌≡◌, ℕ, ◌+◌, ◌*◌, ◌/◌, ◌<◌, ◌≤◌, List, length, nat_le, refl};
 ghost use Rattle.std.proofs.Common.{ap, rules};
-ghost use Rattle.layout.specs.Words.{signed_reply};
 ghost use Rattle.form.specs.Forms.{layer_form};
 ghost use Rattle.slots.specs.Slots.{slot_mark, slot_need, slots_cut};
 ghost use Rattle.array.specs.Lists.{list_shown, list_entry, list_spans, list_seen, slice_in, range_numbers, whole_window};
@@ -23,20 +22,9 @@ use std::marker::PhantomData;
 
 pub mod list_view_array;
 
-// Word number k after a place, or nothing where it does not lie in the body.
-pub fn word_number<O: OffsetSizeTrait>(body: &[u8], place: u64, k: u64) -> Option<i64>
-    ensures { result ≡ signed_reply body.now (place + O.OffsetSizeTrait.width * k) O.OffsetSizeTrait.width }
-{
-    let at = place as u128 + O::width() as u128 * k as u128;
-    if at > body.len() as u128 {
-        return None;
-    }
-    O::read(body, at as u64)
-}
-
 // Whether the first n words after a place end inside the body.
 fn words_fit<O: OffsetSizeTrait>(body: &[u8], place: u64, n: u64) -> bool
-    ensures { result ≡ nat_le (place + O.OffsetSizeTrait.width * n) (length body.now) }
+    ensures { result ≡ nat_le (place + O.WIDTH * n) (length body.now) }
 {
     place as u128 + O::width() as u128 * n as u128 <= body.len() as u128
 }
@@ -61,12 +49,12 @@ fn view_at<O: OffsetSizeTrait>(
     k: u64,
     size: u64,
 ) -> Result<(u64, u64), Stop>
-    ensures { result ≡ view_found size (view_reply O.OffsetSizeTrait.width starts sizes body.now k) }
+    ensures { result ≡ view_found size (view_reply O.WIDTH starts sizes body.now k) }
 {
-    let Some(start) = word_number::<O>(body, starts, k) else {
+    let Some(start) = O::read_nth(body, starts, k) else {
         return Err(Stop::new(Reason::BeyondBytes));
     };
-    let Some(count) = word_number::<O>(body, sizes, k) else {
+    let Some(count) = O::read_nth(body, sizes, k) else {
         return Err(Stop::new(Reason::BeyondBytes));
     };
     match view_in(size, start, count) {
@@ -78,23 +66,23 @@ fn view_at<O: OffsetSizeTrait>(
 impl<O: OffsetSizeTrait, C: Array + Copy> Array for GenericListViewArray<O, C> {
     ghost size = { λ a. a.slots.len };
 
-    ghost form = { λ a. layer_form (C.Array.form a.child) (10 + O.OffsetSizeTrait.width / 8) };
+    ghost form = { λ a. layer_form (C.Array.form a.child) (10 + O.WIDTH / 8) };
 
     ghost mark = { λ a. slot_mark a.slots };
 
     ghost mark_need = { λ a. slot_need a.slots };
 
-    ghost entry = { λ a. list_entry a.slots (C.Array.entry a.child) (view_range O.OffsetSizeTrait.width a.starts a.sizes a.slots (C.Array.size a.child)) };
+    ghost entry = { λ a. list_entry a.slots (C.Array.entry a.child) (view_range O.WIDTH a.starts a.sizes a.slots (C.Array.size a.child)) };
 
     ghost absent_need = { λ a. slot_need a.slots };
 
-    ghost shown = { λ a. list_shown (C.Array.entry a.child) (view_range O.OffsetSizeTrait.width a.starts a.sizes a.slots (C.Array.size a.child)) };
+    ghost shown = { λ a. list_shown (C.Array.entry a.child) (view_range O.WIDTH a.starts a.sizes a.slots (C.Array.size a.child)) };
 
-    ghost spans = { λ a. list_spans a.slots (view_words O.OffsetSizeTrait.width a.starts a.sizes a.slots) (C.Array.spans a.child) };
+    ghost spans = { λ a. list_spans a.slots (view_words O.WIDTH a.starts a.sizes a.slots) (C.Array.spans a.child) };
 
     ghost cut = { λ a s n. record { starts = a.starts; sizes = a.sizes; slots = slots_cut a.slots s n; field = a.field; child = a.child; kind = a.kind } };
 
-    ghost seen = { λ a. list_seen a.slots (C.Array.entry a.child) (view_range O.OffsetSizeTrait.width a.starts a.sizes a.slots (C.Array.size a.child)) (view_words O.OffsetSizeTrait.width a.starts a.sizes a.slots) (C.Array.spans a.child) };
+    ghost seen = { λ a. list_seen a.slots (C.Array.entry a.child) (view_range O.WIDTH a.starts a.sizes a.slots (C.Array.size a.child)) (view_words O.WIDTH a.starts a.sizes a.slots) (C.Array.spans a.child) };
 
     ghost sight = { Prim.search rules };
 
@@ -106,21 +94,21 @@ impl<O: OffsetSizeTrait, C: Array + Copy> Array for GenericListViewArray<O, C> {
 
     ghost mark_needs = { λ a i l. mark_needed a.slots.marks i };
 
-    ghost absent_needs = { λ a i l. list_absence a.slots i (C.Array.entry a.child) (view_range O.OffsetSizeTrait.width a.starts a.sizes a.slots (C.Array.size a.child)) };
+    ghost absent_needs = { λ a i l. list_absence a.slots i (C.Array.entry a.child) (view_range O.WIDTH a.starts a.sizes a.slots (C.Array.size a.child)) };
 
     ghost mark_alike = { λ a.
-        let w = O.OffsetSizeTrait.width in
+        let w = O.WIDTH in
         let size = C.Array.size a.child in
         list_mark_alike a.slots size (C.Array.entry a.child) (view_range w a.starts a.sizes a.slots size) (view_words w a.starts a.sizes a.slots) (C.Array.spans a.child) };
 
     ghost entry_alike = { λ a.
-        let w = O.OffsetSizeTrait.width in
+        let w = O.WIDTH in
         let size = C.Array.size a.child in
         list_entry_alike a.slots size (C.Array.entry a.child) (view_range w a.starts a.sizes a.slots size) (view_words w a.starts a.sizes a.slots) (C.Array.spans a.child)
         (view_inside w a.starts a.sizes a.slots size) (view_range_alike w a.starts a.sizes a.slots size) (C.Array.entry_alike a.child) };
 
     ghost shown_alike = { λ a.
-        let w = O.OffsetSizeTrait.width in
+        let w = O.WIDTH in
         let size = C.Array.size a.child in
         list_shown_alike a.slots size (C.Array.entry a.child) (view_range w a.starts a.sizes a.slots size) (view_words w a.starts a.sizes a.slots) (C.Array.spans a.child)
         (view_inside w a.starts a.sizes a.slots size) (view_range_alike w a.starts a.sizes a.slots size) (C.Array.entry_alike a.child) };
@@ -131,12 +119,12 @@ impl<O: OffsetSizeTrait, C: Array + Copy> Array for GenericListViewArray<O, C> {
 
     ghost cut_mark = { λ a s n l b i h. slots_mark a.slots s n l b i };
 
-    ghost cut_entry = { λ a s n l b i h. rw (slots_mark a.slots s n l b i, view_range_cut O.OffsetSizeTrait.width a.starts a.sizes a.slots (C.Array.size a.child) s n l b i) refl };
+    ghost cut_entry = { λ a s n l b i h. rw (slots_mark a.slots s n l b i, view_range_cut O.WIDTH a.starts a.sizes a.slots (C.Array.size a.child) s n l b i) refl };
 
-    ghost cut_shown = { λ a s n l b i h. ap (window_in (C.Array.entry a.child b)) (view_range_cut O.OffsetSizeTrait.width a.starts a.sizes a.slots (C.Array.size a.child) s n l b i) };
+    ghost cut_shown = { λ a s n l b i h. ap (window_in (C.Array.entry a.child b)) (view_range_cut O.WIDTH a.starts a.sizes a.slots (C.Array.size a.child) s n l b i) };
 
     ghost cut_spans = { λ a s n l.
-        let w = O.OffsetSizeTrait.width in
+        let w = O.WIDTH in
         list_within a.slots s n (view_words w a.starts a.sizes a.slots) (view_words w a.starts a.sizes (slots_cut a.slots s n)) (C.Array.spans a.child) (C.Array.spans a.child) l
         (view_words_cut w a.starts a.sizes a.slots (C.Array.size a.child) s n l) (λ k p. p) };
 
@@ -194,13 +182,13 @@ impl<O: OffsetSizeTrait, C: Array + Copy> ListLikeArray for GenericListViewArray
 
     ghost child = { λ a. a.child };
 
-    ghost range = { λ a. view_range O.OffsetSizeTrait.width a.starts a.sizes a.slots (C.Array.size a.child) };
+    ghost range = { λ a. view_range O.WIDTH a.starts a.sizes a.slots (C.Array.size a.child) };
 
-    ghost range_need = { λ a. view_need O.OffsetSizeTrait.width a.starts a.sizes a.slots };
+    ghost range_need = { λ a. view_need O.WIDTH a.starts a.sizes a.slots };
 
-    ghost range_needs = { λ a i l. view_needed O.OffsetSizeTrait.width a.starts a.sizes a.slots (C.Array.size a.child) (few_bytes O.OffsetSizeTrait.width O.OffsetSizeTrait.known) i };
+    ghost range_needs = { λ a i l. view_needed O.WIDTH a.starts a.sizes a.slots (C.Array.size a.child) (few_bytes O.WIDTH O.OffsetSizeTrait.wide) i };
 
-    ghost range_inside = { λ a b i l. view_inside O.OffsetSizeTrait.width a.starts a.sizes a.slots (C.Array.size a.child) b i l };
+    ghost range_inside = { λ a b i l. view_inside O.WIDTH a.starts a.sizes a.slots (C.Array.size a.child) b i l };
 
     ghost shown_window = { Prim.search rules };
 
@@ -227,23 +215,23 @@ impl<O: OffsetSizeTrait, C: Array + Copy> ListLikeArray for GenericListViewArray
 impl<O: OffsetSizeTrait, C: Array + Copy> ArrayAccessor for GenericListViewArray<O, C> {
     type Item = C;
 
-    ghost item = { λ a b i. slice_in (C.Array.cut a.child) (view_range O.OffsetSizeTrait.width a.starts a.sizes a.slots (C.Array.size a.child) b i) };
+    ghost item = { λ a b i. slice_in (C.Array.cut a.child) (view_range O.WIDTH a.starts a.sizes a.slots (C.Array.size a.child) b i) };
 
-    ghost source = { λ a b i. range_numbers (view_range O.OffsetSizeTrait.width a.starts a.sizes a.slots (C.Array.size a.child) b i) };
+    ghost source = { λ a b i. range_numbers (view_range O.WIDTH a.starts a.sizes a.slots (C.Array.size a.child) b i) };
 
-    ghost item_need = { λ a. view_need O.OffsetSizeTrait.width a.starts a.sizes a.slots };
+    ghost item_need = { λ a. view_need O.WIDTH a.starts a.sizes a.slots };
 
     ghost told = { λ h b. whole_window (C.Array.size h) (C.Array.entry h b) };
 
     ghost item_needs = { λ a i l.
-        let w = O.OffsetSizeTrait.width in
+        let w = O.WIDTH in
         let cs = C.Array.size a.child in
-        needed_into (view_need w a.starts a.sizes a.slots i) (λ b. view_range w a.starts a.sizes a.slots cs b i) range_numbers range_apart (view_needed w a.starts a.sizes a.slots cs (few_bytes O.OffsetSizeTrait.width O.OffsetSizeTrait.known) i) };
+        needed_into (view_need w a.starts a.sizes a.slots i) (λ b. view_range w a.starts a.sizes a.slots cs b i) range_numbers range_apart (view_needed w a.starts a.sizes a.slots cs (few_bytes O.WIDTH O.OffsetSizeTrait.wide) i) };
 
     ghost item_from = { λ a b c i l e. ap (slice_in (C.Array.cut a.child)) (range_apart _ _ e) };
 
     ghost item_told = { λ a b i x l e m.
-        let w = O.OffsetSizeTrait.width in
+        let w = O.WIDTH in
         let cs = C.Array.size a.child in
         rw m (item_told_lem cs (C.Array.entry a.child b) (C.Array.cut a.child) C.Array.size (λ h. C.Array.entry h b) (view_range w a.starts a.sizes a.slots cs b i) (view_inside w a.starts a.sizes a.slots cs b i l)
         (λ s n k. C.Array.cut_size a.child s n k) (λ s n k j q. C.Array.cut_entry a.child s n k b j q) x e) };

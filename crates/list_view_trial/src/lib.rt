@@ -18,7 +18,6 @@ use form::data_type::Field;
 use ledger::ledger::Ledger;
 use ledger::stop::{Reason, Stop};
 use list_view_array::list_view_array::GenericListViewArray;
-use list_view_array::word_number;
 use scalar_buffer::ScalarBuffer;
 use slots::null_buffer::NullBuffer;
 use slots::slots::Slots;
@@ -37,8 +36,8 @@ pub fn try_new<O: OffsetSizeTrait, C: Array + Copy>(
     nulls: Option<NullBuffer>,
     child: C,
 ) -> Result<GenericListViewArray<O, C>, Stop>
-    ensures answers { result ≡ view_trial O.OffsetSizeTrait.width (accounts_of ledger.now) body.now field starts sizes nulls (C.Array.size child) (C.Array.spans child) (Ok (absents (C.Array.size child) (C.Array.entry child body.now))) (C.Array.form child) (record { starts = starts.place; sizes = sizes.place; slots = new_slots starts.len nulls; field = field; child = child; kind = record {} }) }
-    ensures leads { MatchResult result (λ h. TrialLeads body.now (accounts_of ledger.now).loaded (C.Array.spans child) (list_seen h.slots (C.Array.entry h.child) (view_range O.OffsetSizeTrait.width h.starts h.sizes h.slots (C.Array.size h.child)) (view_words O.OffsetSizeTrait.width h.starts h.sizes h.slots) (C.Array.spans h.child))) (λ _. StopLeads) }
+    ensures answers { result ≡ view_trial O.WIDTH (accounts_of ledger.now) body.now field starts sizes nulls (C.Array.size child) (C.Array.spans child) (Ok (absents (C.Array.size child) (C.Array.entry child body.now))) (C.Array.form child) (record { starts = starts.place; sizes = sizes.place; slots = new_slots starts.len nulls; field = field; child = child; kind = record {} }) }
+    ensures leads { MatchResult result (λ h. TrialLeads body.now (accounts_of ledger.now).loaded (C.Array.spans child) (list_seen h.slots (C.Array.entry h.child) (view_range O.WIDTH h.starts h.sizes h.slots (C.Array.size h.child)) (view_words O.WIDTH h.starts h.sizes h.slots) (C.Array.spans h.child))) (λ _. StopLeads) }
 {
     tried(ledger, body, field, starts, sizes, nulls, child)
 }
@@ -52,7 +51,7 @@ fn tried<O: OffsetSizeTrait, C: Array + Copy>(
     nulls: Option<NullBuffer>,
     child: C,
 ) -> Result<GenericListViewArray<O, C>, Stop>
-    ensures { result ≡ view_trial O.OffsetSizeTrait.width (accounts_of ledger.now) body.now field starts sizes nulls (C.Array.size child) (C.Array.spans child) (count_reply (C.Array.size child) (C.Array.absent_need child) (λ j. is_absent (C.Array.entry child body.now j)) body.now) (C.Array.form child) (record { starts = starts.place; sizes = sizes.place; slots = new_slots starts.len nulls; field = field; child = child; kind = record {} }) }
+    ensures { result ≡ view_trial O.WIDTH (accounts_of ledger.now) body.now field starts sizes nulls (C.Array.size child) (C.Array.spans child) (count_reply (C.Array.size child) (C.Array.absent_need child) (λ j. is_absent (C.Array.entry child body.now j)) body.now) (C.Array.form child) (record { starts = starts.place; sizes = sizes.place; slots = new_slots starts.len nulls; field = field; child = child; kind = record {} }) }
 {
     check_own(
         ledger,
@@ -96,13 +95,13 @@ fn check_sizes(starts: u64, sizes: u64) -> Result<(), Stop>
 
 // Where slot k ends.
 fn view_end<O: OffsetSizeTrait>(body: &[u8], starts: u64, sizes: u64, k: u64) -> u128
-    requires { (starts + O.OffsetSizeTrait.width * k + O.OffsetSizeTrait.width ≤ length body.now) × (sizes + O.OffsetSizeTrait.width * k + O.OffsetSizeTrait.width ≤ length body.now) }
-    ensures { result ≡ view_end O.OffsetSizeTrait.width starts sizes body.now k }
+    requires { (starts + O.WIDTH * k + O.WIDTH ≤ length body.now) × (sizes + O.WIDTH * k + O.WIDTH ≤ length body.now) }
+    ensures { result ≡ view_end O.WIDTH starts sizes body.now k }
 {
-    let Some(start) = word_number::<O>(body, starts, k) else {
+    let Some(start) = O::read_nth(body, starts, k) else {
         return 0;
     };
-    let Some(count) = word_number::<O>(body, sizes, k) else {
+    let Some(count) = O::read_nth(body, sizes, k) else {
         return 0;
     };
     start.cast_unsigned() as u128 + count.cast_unsigned() as u128
@@ -128,8 +127,8 @@ fn check_views<O: OffsetSizeTrait>(
     n: u64,
     size: u64,
 ) -> Result<(), Stop>
-    requires { (k : ℕ) → k < n → (starts + O.OffsetSizeTrait.width * k + O.OffsetSizeTrait.width ≤ length body.now) × (sizes + O.OffsetSizeTrait.width * k + O.OffsetSizeTrait.width ≤ length body.now) }
-    ensures { result ≡ ends_reply size (view_end O.OffsetSizeTrait.width starts sizes body.now) n }
+    requires { (k : ℕ) → k < n → (starts + O.WIDTH * k + O.WIDTH ≤ length body.now) × (sizes + O.WIDTH * k + O.WIDTH ≤ length body.now) }
+    ensures { result ≡ ends_reply size (view_end O.WIDTH starts sizes body.now) n }
 {
     for k in 0..n {
         check_end(size, view_end::<O>(body, starts, sizes, k))?;

@@ -185,13 +185,6 @@ impl<T: ArrowPrimitiveType> ArrayAccessor for PrimitiveArray<T> {
         if i >= self.slots.len {
             return Err(Stop::new(Reason::IndexPastEnd));
         }
-        let at = self.place as u128 + T::width() as u128 * (self.slots.first as u128 + i as u128);
-        if at > u64::MAX as u128 {
-            return Err(Stop::new(Reason::BeyondBytes));
-        }
-        match T::read(body, at as u64) {
-            Some(v) => Ok(v),
-            None => Err(Stop::new(Reason::BeyondBytes)),
-        }
+        T::read_nth(body, self.place, self.slots.first + i).ok_or(Stop::new(Reason::BeyondBytes))
     }
 }

@@ -1,4 +1,4 @@
-ghost use Rattle.std.specs.Prelude.{◌≡◌, ℕ, ℤ, pos};
+ghost use Rattle.std.specs.Prelude.{◌≡◌, ℕ, ◌+◌, ◌*◌, ℤ, pos};
 ghost use Rattle.form.specs.Forms.{leaf_form};
 ghost use Rattle.layout.specs.Words.{signed_of};
 ghost use Rattle.primitive_array.specs.Wholes.{whole_reply};
@@ -7,7 +7,7 @@ ghost use Rattle.layout.specs.NativeLaws.{signed_zero};
 
 use form::data_type::DataType;
 use layout::native::ArrowNativeType;
-use layout::words::get;
+use layout::words::{get, get_nth};
 
 // A kind of number leaves: the numbers that it holds, its form digit, and what a word of it means.
 pub trait ArrowPrimitiveType {
@@ -38,6 +38,14 @@ pub trait ArrowPrimitiveType {
         ensures { result ≡ whole_reply whole width body.now at }
     {
         let number = get::<Self::Native>(body, at)?;
+        Some(number.to_i64())
+    }
+
+    // Number k of those that lie one behind the other from a place on.
+    fn read_nth(body: &[u8], place: u64, k: u64) -> Option<i64>
+        ensures { result ≡ whole_reply whole width body.now (place + width * k) }
+    {
+        let number = get_nth::<Self::Native>(body, place, k)?;
         Some(number.to_i64())
     }
 

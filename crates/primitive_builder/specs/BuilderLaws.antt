@@ -112,6 +112,11 @@ module _ (w : ℕ) (whole : ℕ → ℤ) (p : Rows) (at : ℕ) where
               rested = λ t h. inr (below_own (p.count + n') room t h);
             }
 
+-- what is read of a number's word, told by a width and a reading that are the same as those of the numbers held
+pub tied_read : (v w : ℕ) (f whole : ℕ → ℤ) (word : ℤ → Option ℕ) → v ≡ w → ((n : ℕ) → f n ≡ whole n) → ((z : ℤ) (n : ℕ) → word z ≡ Some n → (f n ≡ z) × (n < 256 ^ v))
+    → (z : ℤ) (n : ℕ) → word z ≡ Some n → (whole n ≡ z) × (n < 256 ^ w)
+tied_read v w f whole word e t r z n h = let q = r z n h in (sym (t n) ∙ q.0, rw e at q.1)
+
 -- the number of a word that was found
 found : (o : Option ℕ) → is_some o ≡ true → o ≡ Some (unwrap_or o 0)
 found (Some n) e = refl
@@ -120,7 +125,7 @@ found None e = let q : ◌≡◌ {A = ℕ} 0 1 = cc in absurd (omega arith)
 module _ (w : ℕ) (whole : ℕ → ℤ) (word : ℤ → Option ℕ) (zero_word : word (pos 0) ≡ Some 0)
     (read : (z : ℤ) (n : ℕ) → word z ≡ Some n → (whole n ≡ z) × (n < 256 ^ w)) where
   -- the word of a taken step's number
-  step_word : (count room : ℕ) (s : Step) → leaf_test (is_some (word (leaf_row s).1)) count room s ≡ Ok tt → word (leaf_row s).1 ≡ Some (unwrap_or (word (leaf_row s).1) 0)
+  pub step_word : (count room : ℕ) (s : Step) → leaf_test (is_some (word (leaf_row s).1)) count room s ≡ Ok tt → word (leaf_row s).1 ≡ Some (unwrap_or (word (leaf_row s).1) 0)
   step_word count room (Value v) e = found (word v) (leaf_fits (is_some (word v)) count room v e)
   step_word count room Null e = rw zero_word refl
   step_word count room (Nulls n) e = rw zero_word refl

@@ -1,4 +1,2 @@
-pub mod Natives
 pub mod Numbers
 pub mod BuilderLaws
-pub mod NativeLaws

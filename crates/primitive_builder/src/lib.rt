@@ -11,16 +11,17 @@ ghost use Rattle.builder.specs.Tables.{step_slots};
 ghost use Rattle.layout.specs.Words.{written};
 ghost use Rattle.primitive_builder.specs.Numbers.{number_row, number_leaf, put_number, put_numbers, grown, number_own, number_rests, NumbersInside};
 ghost use Rattle.builder.proofs.LeafLaws.{leaf_count, leaf_lawful};
-ghost use Rattle.primitive_builder.specs.BuilderLaws.{number_framed, number_owned, number_within, number_stays, number_goes, shot_slots, number_shows};
+ghost use Rattle.primitive_builder.specs.BuilderLaws.{number_framed, number_owned, number_within, number_stays, number_goes, shot_slots, number_shows, tied_read};
 ghost use Rattle.builder.specs.Steps.{Shows};
 ghost use Rattle.slots.specs.Slots.{slot_mark};
 
 use array::array::Array;
 use builder::builder::ArrayBuilder;
-use builder::leaf::{check_leaf, leaf_mark};
+use builder::leaf::{check_leaf, leaf_row};
 use builder::step::Step;
+use layout::native::ArrowNativeType;
+use layout::words::put_nth;
 use ledger::stop::{Reason, Stop};
-use native::ArrowNativeType;
 use primitive_array::primitive_array::PrimitiveArray;
 use primitive_array::types::ArrowPrimitiveType;
 use primitive_builder::PrimitiveBuilder;
@@ -29,56 +30,35 @@ use rows::{nulls_at, put_bit};
 use slots::slots::Slots;
 use std::marker::PhantomData;
 
-pub mod native;
 pub mod primitive_builder;
 
-// Writes a word as number k from a place on; nothing changes where it does not lie in the body.
-fn put_number<T: ArrowNativeType>(body: &mut [u8], place: u64, k: u64, word: u64)
-    ensures { body.new ≡ written T.ArrowPrimitiveType.width body.old (place + T.ArrowPrimitiveType.width * k) (word % 256 ^ T.ArrowPrimitiveType.width) }
-{
-    let at = place as u128 + T::width() as u128 * k as u128;
-    if at < body.len() as u128 {
-        T::write(body, at as u64, word);
-    }
-}
-
-// The word that a step writes, or nothing where its number lies outside the range; a null's number is 0.
-fn word_of<T: ArrowNativeType>(step: Step) -> Option<u64>
-    ensures { result ≡ T.ArrowNativeType.word (leaf_row step).1 }
-{
-    match step {
-        Step::Value(v) => T::to_word(v),
-        Step::Null | Step::Nulls(_) | Step::Close(_) => Some(0),
-    }
-}
-
 // Writes n rows behind those that are taken.
-fn put_rows<T: ArrowNativeType>(
+fn put_rows<T: ArrowPrimitiveType>(
     body: &mut [u8],
     rows: Rows,
     place: u64,
     n: u64,
     mark: bool,
-    word: u64,
+    number: T::Native,
 )
-    requires { rows.count + n < 2 ^ 64 }
-    ensures { body.new ≡ rows_put (λ j. put_number T.ArrowPrimitiveType.width rows place mark word (rows.count + j)) n body.old }
+    requires { (rows.count + n < 2 ^ 64) × (T.Native.to_word number < 256 ^ T.ArrowPrimitiveType.width) }
+    ensures { body.new ≡ rows_put (λ j. put_number T.ArrowPrimitiveType.width rows place mark (T.Native.to_word number) (rows.count + j)) n body.old }
 {
     for i in 0..n {
         let k = rows.count + i;
         put_bit(body, rows.marks, k, mark);
-        put_number::<T>(body, place, k, word);
+        let _ = put_nth(body, place, k, number);
     }
 }
 
-impl<T: ArrowNativeType> ArrayBuilder for PrimitiveBuilder<T> {
+impl<T: ArrowPrimitiveType> ArrayBuilder for PrimitiveBuilder<T> {
     type Out = PrimitiveArray<T>;
 
     ghost size = { λ a. a.length };
 
     ghost count = { λ a. a.rows.count };
 
-    ghost means = { λ a b. leaf_means (λ v. is_some (T.ArrowNativeType.word v)) (leaf_form T.ArrowPrimitiveType.DIGIT) (number_leaf T.ArrowPrimitiveType.width T.ArrowPrimitiveType.whole a.rows a.numbers b) };
+    ghost means = { λ a b. leaf_means (λ v. is_some (T.Native.word v)) (leaf_form T.ArrowPrimitiveType.DIGIT) (number_leaf T.ArrowPrimitiveType.width T.ArrowPrimitiveType.whole a.rows a.numbers b) };
 
     ghost shown = { λ a b i. (leaf_slot (number_row T.ArrowPrimitiveType.width T.ArrowPrimitiveType.whole a.rows a.numbers b i)).entry };
 
@@ -92,15 +72,15 @@ impl<T: ArrowNativeType> ArrayBuilder for PrimitiveBuilder<T> {
 
     ghost next = { λ a d s. record { length = a.length; rows = grown a.rows (step_slots s); numbers = a.numbers; kind = a.kind } };
 
-    ghost puts = { λ a d s b. put_numbers T.ArrowPrimitiveType.width T.ArrowNativeType.word a.rows a.numbers s b };
+    ghost puts = { λ a d s b. put_numbers T.ArrowPrimitiveType.width T.Native.word a.rows a.numbers s b };
 
     ghost shot = { λ a b. Ok (record { place = a.numbers; slots = new_slots a.rows.count (nulls_at b a.rows.marks a.rows.count); kind = record {} }) };
 
     ghost counted = { λ a b. leaf_count (number_row T.ArrowPrimitiveType.width T.ArrowPrimitiveType.whole a.rows a.numbers b) a.rows.count };
 
-    ghost lawful = { λ a b. leaf_lawful (λ v. is_some (T.ArrowNativeType.word v)) (leaf_form T.ArrowPrimitiveType.DIGIT) (number_leaf T.ArrowPrimitiveType.width T.ArrowPrimitiveType.whole a.rows a.numbers b) };
+    ghost lawful = { λ a b. leaf_lawful (λ v. is_some (T.Native.word v)) (leaf_form T.ArrowPrimitiveType.DIGIT) (number_leaf T.ArrowPrimitiveType.width T.ArrowPrimitiveType.whole a.rows a.numbers b) };
 
-    ghost framed = { λ a b c h. ap (leaf_means (λ v. is_some (T.ArrowNativeType.word v)) (leaf_form T.ArrowPrimitiveType.DIGIT)) (number_framed T.ArrowPrimitiveType.width T.ArrowPrimitiveType.whole a.rows a.numbers b c h) };
+    ghost framed = { λ a b c h. ap (leaf_means (λ v. is_some (T.Native.word v)) (leaf_form T.ArrowPrimitiveType.DIGIT)) (number_framed T.ArrowPrimitiveType.width T.ArrowPrimitiveType.whole a.rows a.numbers b c h) };
 
     ghost owned = { λ a i. number_owned T.ArrowPrimitiveType.width T.ArrowPrimitiveType.whole a.rows a.numbers a.length i };
 
@@ -108,11 +88,11 @@ impl<T: ArrowNativeType> ArrayBuilder for PrimitiveBuilder<T> {
 
     ghost same_size = { Prim.search rules };
 
-    ghost stays = { λ a b d s i e. number_stays T.ArrowPrimitiveType.width T.ArrowPrimitiveType.whole T.ArrowNativeType.word T.ArrowNativeType.zero_word T.ArrowNativeType.word_read a.length a.rows a.numbers b d s i e };
+    ghost stays = { λ a b d s i e. number_stays T.ArrowPrimitiveType.width T.ArrowPrimitiveType.whole T.Native.word T.Native.zero_word (tied_read T.Native.WIDTH T.ArrowPrimitiveType.width (λ n. T.Native.whole (T.Native.of_word n)) T.ArrowPrimitiveType.whole T.Native.word T.ArrowPrimitiveType.native_width T.ArrowPrimitiveType.native_whole T.Native.word_read) a.length a.rows a.numbers b d s i e };
 
     ghost keeps_apart = { Prim.search rules };
 
-    ghost goes = { λ a b d s i q l e. number_goes T.ArrowPrimitiveType.width T.ArrowPrimitiveType.whole T.ArrowNativeType.word T.ArrowNativeType.zero_word T.ArrowNativeType.word_read (leaf_form T.ArrowPrimitiveType.DIGIT) a.length a.rows a.numbers b d s i l e };
+    ghost goes = { λ a b d s i q l e. number_goes T.ArrowPrimitiveType.width T.ArrowPrimitiveType.whole T.Native.word T.Native.zero_word (tied_read T.Native.WIDTH T.ArrowPrimitiveType.width (λ n. T.Native.whole (T.Native.of_word n)) T.ArrowPrimitiveType.whole T.Native.word T.ArrowPrimitiveType.native_width T.ArrowPrimitiveType.native_whole T.Native.word_read) (leaf_form T.ArrowPrimitiveType.DIGIT) a.length a.rows a.numbers b d s i l e };
 
     ghost shot_form = { Prim.search rules };
 
@@ -139,17 +119,12 @@ impl<T: ArrowNativeType> ArrayBuilder for PrimitiveBuilder<T> {
         if depth != 0 {
             return Err(Stop::new(Reason::NoSuchStep));
         }
+        let (mark, v) = leaf_row(step);
+        let number = T::Native::from_i64(v);
+        check_leaf(self.rows, step, number.is_some())?;
+        let number = number.ok_or(Stop::new(Reason::NumberOutOfRange))?;
         let n = step.slots();
-        let word = word_of::<T>(step);
-        check_leaf(self.rows, step, word.is_some())?;
-        put_rows::<T>(
-            body,
-            self.rows,
-            self.numbers,
-            n,
-            leaf_mark(step),
-            word.unwrap_or(0),
-        );
+        put_rows::<T>(body, self.rows, self.numbers, n, mark, number);
         self.rows.count += n;
         Ok(())
     }

@@ -37,7 +37,7 @@ fn set_bit(body: &mut [u8], at: usize, j: u32, value: bool)
 
 // Writes an offset as word k from a place on; nothing changes where it does not lie in the body.
 pub fn put_offset<O: OffsetSizeTrait>(body: &mut [u8], place: u64, k: u64, offset: u64)
-    ensures { body.new ≡ offset_put O.OffsetSizeTrait.width body.old place k offset }
+    ensures { body.new ≡ offset_put O.WIDTH body.old place k offset }
 {
     let at = place as u128 + O::width() as u128 * k as u128;
     if at < body.len() as u128 {

@@ -17,7 +17,7 @@ returns g c =
     let a = c.args.a.now in
     let b = c.args.body.now in
     let ledger = accounts_of c.args.ledger.now in
-    let w = g.O.OffsetSizeTrait.width in
+    let w = g.O.ArrowNativeType.WIDTH in
     let s = a.slots in
     let n = w * s.len in
     let cs = g.C.Array.size a.child in
@@ -43,7 +43,7 @@ returns g c =
       account = e.account;
       leaves = e.leaves;
       leads = λ below.
-          let base : T (aligned ledger.end) (second ledger n) (fresh_slots s) (second ledger n + n) views = fixed_turns w g.met.O.OffsetSizeTrait.known a.size s cs f child (g.met.C.Array.entry_alike a.child) b ledger (sym l) z t.1.0 t.1.1 below in
+          let base : T (aligned ledger.end) (second ledger n) (fresh_slots s) (second ledger n + n) views = fixed_turns w g.met.O.OffsetSizeTrait.wide a.size s cs f child (g.met.C.Array.entry_alike a.child) b ledger (sym l) z t.1.0 t.1.1 below in
           subst (λ u. T u y c.fresh.result (accounts_of c.fixed_turned.new.ledger).end c.fixed_turned.new.body) (sym ex)
           (subst (λ v. T (aligned ledger.end) v c.fresh.result (accounts_of c.fixed_turned.new.ledger).end c.fixed_turned.new.body) (sym ey)
           (subst (λ r. T (aligned ledger.end) (second ledger n) r (accounts_of c.fixed_turned.new.ledger).end c.fixed_turned.new.body) (sym c.fresh.ensures)

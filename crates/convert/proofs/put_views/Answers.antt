@@ -13,7 +13,7 @@ loop-i-init g c = sym (views_none _ _ _ _ _)
 
 pub loop-i-preserved : goal.loop-i-preserved
 loop-i-preserved g c =
-    let w = g.O.OffsetSizeTrait.width in
+    let w = g.O.ArrowNativeType.WIDTH in
     let a = c.args.a.now in
     let range : List ℕ → ℕ → Result Range Stop = λ b i. find_reply (g.L.Array.size a) (g.L.ListLikeArray.range_need a) (g.L.ListLikeArray.range a b) b i in
     let b = c.loop-i.body in

@@ -8,7 +8,7 @@ use Rattle.convert.proofs.write_views.Goals as goal
 
 pub returns : goal.returns
 returns g c =
-    let w = g.O.OffsetSizeTrait.width in
+    let w = g.O.ArrowNativeType.WIDTH in
     let a = c.args.a.now in
     let b = c.args.body.now in
     let p = c.args.starts in
@@ -24,5 +24,5 @@ returns g c =
     record {
       fits = rw (le-leb (p + w * size) (length b) x, le-leb (q + w * size) (length b) y) refl;
       leaves = l;
-      shows = λ t. rw l (views_show w g.met.O.OffsetSizeTrait.known size goal (g.L.ListLikeArray.range a) p q b (g.met.L.ListLikeArray.range_needs a));
+      shows = λ t. rw l (views_show w g.met.O.OffsetSizeTrait.wide size goal (g.L.ListLikeArray.range a) p q b (g.met.L.ListLikeArray.range_needs a));
     }

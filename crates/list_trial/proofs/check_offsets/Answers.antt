@@ -17,7 +17,7 @@ loop-k-init g c =
 
 pub returns-then-next-last : goal.returns-then-next-last
 returns-then-next-last g c =
-    let f : ℕ → ℤ = offset_of g.O.OffsetSizeTrait.width c.args.place c.args.body.now in
+    let f : ℕ → ℤ = offset_of g.O.ArrowNativeType.WIDTH c.args.place c.args.body.now in
     let s : SFits w64 c.offset_in-next.result = search rules in
     let s0 : SFits w64 c.offset_in-last.result = search rules in
     let e = to_z-of_z w64 c.offset_in-next.result s in
@@ -31,7 +31,7 @@ returns-then-next-last g c =
 
 pub loop-k-preserved : goal.loop-k-preserved
 loop-k-preserved g c =
-    let f : ℕ → ℤ = offset_of g.O.OffsetSizeTrait.width c.args.place c.args.body.now in
+    let f : ℕ → ℤ = offset_of g.O.ArrowNativeType.WIDTH c.args.place c.args.body.now in
     let s : SFits w64 c.offset_in-next.result = search rules in
     let e = to_z-of_z w64 c.offset_in-next.result s in
     let k = c.loop-k.k in

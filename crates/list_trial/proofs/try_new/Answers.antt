@@ -15,7 +15,7 @@ use Rattle.list_trial.proofs.try_new.Goals as goal
 
 pub returns : goal.returns
 returns g c =
-    let w = g.O.OffsetSizeTrait.width in
+    let w = g.O.ArrowNativeType.WIDTH in
     let ledger = accounts_of c.args.ledger.now in
     let b = c.args.body.now in
     let count = c.args.count in
@@ -38,6 +38,6 @@ returns g c =
           let o = own_taken ledger b (bytes_end place (w * count)) nulls spans (sym x) in
           let l : ledger.loaded < 2 ^ 64 = search rules in
           list_leads w place count size nulls b ledger.loaded (g.C.Array.entry child) spans (g.met.C.Array.entry_alike child) o.0 o.1.0
-          (few_words w place count ledger.loaded g.met.O.OffsetSizeTrait.known o.0 l) y z)
+          (few_words w place count ledger.loaded g.met.O.OffsetSizeTrait.wide o.0 l) y z)
           stop_leads;
     }

@@ -7,7 +7,7 @@ use Rattle.list_view_trial.proofs.tried.Goals as goal
 
 pub returns-in_err-slots : goal.returns-in_err-slots
 returns-in_err-slots g c =
-    let w = g.O.OffsetSizeTrait.width in
+    let w = g.O.ArrowNativeType.WIDTH in
     let ledger = accounts_of c.args.ledger.now in
     let starts = c.args.starts in
     let sizes = c.args.sizes in
@@ -15,5 +15,5 @@ returns-in_err-slots g c =
     let o0 = o.0 in
     let l : ledger.loaded < 2 ^ 64 = search rules in
     let m : bytes_end starts.place (w * starts.len) ≤ ledger.loaded = omega arith in
-    let f = few_words w starts.place starts.len ledger.loaded g.met.O.OffsetSizeTrait.known m l in
+    let f = few_words w starts.place starts.len ledger.loaded g.met.O.OffsetSizeTrait.wide m l in
     absurd (new_never starts.len (new_slots starts.len c.args.nulls) _ f c.in_err-slots.ensures)

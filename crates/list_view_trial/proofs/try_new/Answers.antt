@@ -14,7 +14,7 @@ use Rattle.list_view_trial.proofs.try_new.Goals as goal
 
 pub returns : goal.returns
 returns g c =
-    let w = g.O.OffsetSizeTrait.width in
+    let w = g.O.ArrowNativeType.WIDTH in
     let ledger = accounts_of c.args.ledger.now in
     let b = c.args.body.now in
     let nulls = c.args.nulls in
@@ -41,6 +41,6 @@ returns g c =
           let l : ledger.loaded < 2 ^ 64 = search rules in
           let m : bytes_end starts.place (w * starts.len) ≤ ledger.loaded = omega arith in
           view_leads w starts sizes size nulls b ledger.loaded (g.C.Array.entry child) spans (g.met.C.Array.entry_alike child) o.0 o.1.0
-          (few_words w starts.place starts.len ledger.loaded g.met.O.OffsetSizeTrait.known m l) y z)
+          (few_words w starts.place starts.len ledger.loaded g.met.O.OffsetSizeTrait.wide m l) y z)
           stop_leads;
     }

@@ -7,7 +7,7 @@ use Rattle.list_view_array.proofs.GenericListViewArrayArrayAccessor.value.Goals 
 pub overflow_sub-to : goal.overflow_sub-to
 overflow_sub-to g c =
     let a = c.args.self.now in
-    let w = g.O.OffsetSizeTrait.width in
+    let w = g.O.ArrowNativeType.WIDTH in
     let b = c.args.body.now in
     let cs = g.C.Array.size a.child in
     (value_step a.slots.len c.args.i (view_need w a.starts a.sizes a.slots) (view_range w a.starts a.sizes a.slots cs b) b cs (g.C.Array.cut a.child) _ (view_inside w a.starts a.sizes a.slots cs b) c.in_ok-from.ensures).0
@@ -15,7 +15,7 @@ overflow_sub-to g c =
 pub returns : goal.returns
 returns g c =
     let a = c.args.self.now in
-    let w = g.O.OffsetSizeTrait.width in
+    let w = g.O.ArrowNativeType.WIDTH in
     let b = c.args.body.now in
     let cs = g.C.Array.size a.child in
     c.slice.ensures ∙ (value_step a.slots.len c.args.i (view_need w a.starts a.sizes a.slots) (view_range w a.starts a.sizes a.slots cs b) b cs (g.C.Array.cut a.child) _ (view_inside w a.starts a.sizes a.slots cs b) c.in_ok-from.ensures).1

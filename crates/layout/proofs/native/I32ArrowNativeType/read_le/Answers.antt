@@ -2,7 +2,7 @@ use Rattle.std.proofs.Common.{ap, ◌∙◌, w32, SFits, to_z, of_z, rules}
 use Rattle.std.proofs.lemmas.Int.{to_z-of_z}
 use Rattle.layout.specs.Words.{signed_of, word_at}
 use Rattle.layout.proofs.WordSums.{made_of_bytes, taken_4, signed_32}
-use Rattle.layout.proofs.native.I32ArrowNativeType.read.Goals as goal
+use Rattle.layout.proofs.native.I32ArrowNativeType.read_le.Goals as goal
 
 pub returns : goal.returns
 returns c =

@@ -1,6 +1,6 @@
 use Rattle.layout.proofs.WordSums.{made_of_bytes, taken_2}
 use Rattle.std.proofs.Common.{◌∙◌}
-use Rattle.layout.proofs.native.U16ArrowNativeType.read.Goals as goal
+use Rattle.layout.proofs.native.U16ArrowNativeType.read_le.Goals as goal
 
 pub returns : goal.returns
 returns c =
