@@ -10,18 +10,21 @@ mask : (w v : ℕ) → (w ≡ 4) ⊎ (w ≡ 8)
 mask w v (inl e) = rw e (and_mask v 31, (omega arith, (omega arith, omega arith)))
 mask w v (inr e) = rw e (and_mask v 63, (omega arith, (omega arith, omega arith)))
 
--- the number that an offset becomes has the offset's lowest bits as its word
-module _ {S : Type 0} (w : ℕ) (of_word : ℕ → S) (to_word : S → ℕ) (word : ℤ → Option ℕ) (wide : (w ≡ 4) ⊎ (w ≡ 8))
-    (own : (n : ℕ) → n < 256 ^ w → to_word (of_word n) ≡ n) (offset_word : (n : ℕ) → n ≤ largest_of w → word (pos n) ≡ Some n) where
-  pub offset_number : (v m : ℕ) (r : Option S) (x : S) → m ≡ largest_of w → r ≡ option_map of_word (word (to_z w64 (bit_and v m))) → r ≡ Some x → to_word x ≡ v % suc (largest_of w)
-  offset_number v m r x e f s =
+module _ {S : Type 0} (w : ℕ) (of_word : ℕ → S) (word : ℤ → Option ℕ) (wide : (w ≡ 4) ⊎ (w ≡ 8)) (offset_word : (n : ℕ) → n ≤ largest_of w → word (pos n) ≡ Some n) where
+  -- an offset becomes the number whose word its lowest bits are
+  pub offset_number : (v m : ℕ) (r : Option S) → m ≡ largest_of w → r ≡ option_map of_word (word (to_z w64 (bit_and v m))) → r ≡ Some (of_word (v % suc (largest_of w)))
+  offset_number v m r e f =
       let k = v % suc (largest_of w) in
       let p = mask w v wide in
-      let p2 = p.1.1.0 in
       let b : bit_and v m ≡ k = rw e p.0 in
-      let l : k < 9223372036854775808 = p2 in
+      let l : k < 9223372036854775808 = p.1.1.0 in
       let z : to_z w64 (bit_and v m) ≡ pos k = rw b (to_z_pos w64 k l) in
       let q : word (to_z w64 (bit_and v m)) ≡ Some k = rw z (offset_word k p.1.0) in
-      let t : r ≡ Some (of_word k) = f ∙ rw q refl in
-      let u : x ≡ of_word k = cc in
-      ap to_word u ∙ own k p.1.1.1
+      f ∙ rw q refl
+
+-- that number's word is the offset's lowest bits
+pub offset_lowest : {S : Type 0} (w : ℕ) (of_word : ℕ → S) (to_word : S → ℕ) → ((w ≡ 4) ⊎ (w ≡ 8)) → ((n : ℕ) → n < 256 ^ w → to_word (of_word n) ≡ n)
+    → (v : ℕ) (r : Option S) (x : S) → r ≡ Some (of_word (v % suc (largest_of w))) → r ≡ Some x → to_word x ≡ v % suc (largest_of w)
+offset_lowest w of_word to_word wide own v r x e f =
+    let u : x ≡ of_word (v % suc (largest_of w)) = cc in
+    ap to_word u ∙ own (v % suc (largest_of w)) (mask w v wide).1.1.1

@@ -4,7 +4,7 @@ ghost use Rattle.array.specs.Offsets.{largest_of};
 ghost use Rattle.std.proofs.Common.{rules};
 
 use layout::native::ArrowNativeType;
-use layout::words::{get, get_nth, put};
+use layout::words::{get, get_nth, put, put_nth};
 
 // A kind of offsets: signed numbers of four or eight bytes.
 pub trait OffsetSizeTrait: ArrowNativeType {
@@ -50,14 +50,32 @@ pub trait OffsetSizeTrait: ArrowNativeType {
         Some(offset.to_i64())
     }
 
+    // The number of an offset, without what passes the largest offset's bits.
+    fn of_offset(offset: u64) -> Option<Self>
+        ensures { result ≡ Some (Self.of_word (offset % suc (largest_of Self.WIDTH))) }
+    {
+        Self::from_i64((offset & Self::max_offset()) as i64)
+    }
+
     // Writes an offset at a place, without what passes the largest offset's bits; false, and nothing written, where it
     // does not lie in the body.
     fn write(body: &mut [u8], at: u64, offset: u64) -> bool
         ensures fits { result ≡ word_fits body.old at Self.WIDTH }
         ensures leaves { body.new ≡ written Self.WIDTH body.old at (offset % suc (largest_of Self.WIDTH)) }
     {
-        match Self::from_i64((offset & Self::max_offset()) as i64) {
+        match Self::of_offset(offset) {
             Some(number) => put(body, at, number),
+            None => false,
+        }
+    }
+
+    // Writes it as offset number k of those that lie one behind the other from a place on.
+    fn write_nth(body: &mut [u8], place: u64, k: u64, offset: u64) -> bool
+        ensures fits { result ≡ word_fits body.old (place + Self.WIDTH * k) Self.WIDTH }
+        ensures leaves { body.new ≡ written Self.WIDTH body.old (place + Self.WIDTH * k) (offset % suc (largest_of Self.WIDTH)) }
+    {
+        match Self::of_offset(offset) {
+            Some(number) => put_nth(body, place, k, number),
             None => false,
         }
     }

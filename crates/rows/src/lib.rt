@@ -39,10 +39,7 @@ fn set_bit(body: &mut [u8], at: usize, j: u32, value: bool)
 pub fn put_offset<O: OffsetSizeTrait>(body: &mut [u8], place: u64, k: u64, offset: u64)
     ensures { body.new ≡ offset_put O.WIDTH body.old place k offset }
 {
-    let at = place as u128 + O::width() as u128 * k as u128;
-    if at < body.len() as u128 {
-        let _ = O::write(body, at as u64, offset);
-    }
+    let _ = O::write_nth(body, place, k, offset);
 }
 
 // The marks of a handle on the first n bits from a place on: none where all of them are 1.
