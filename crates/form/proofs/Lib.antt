@@ -1,4 +1,3 @@
 pub mod Numbers
 pub mod Zeros
 pub mod Shaped
-pub mod Front

@@ -4,6 +4,8 @@ use Rattle.ledger.specs.declared.stop.Reason.TheVariants.{FormTooLong}
 use Rattle.ledger.specs.declared.stop.Stop.{Stop}
 use Rattle.ledger.specs.Stops.{stopped}
 use Rattle.form.specs.declared.data_type.DataType.{DataType}
+use Rattle.form.specs.declared.data_type.Leaf.{Leaf}
+use Rattle.form.specs.declared.data_type.Leaf.TheVariants.{Null, Boolean, UInt16, Int32, Int64}
 
 -- how many digits a code has place for
 abbrev pub places : ℕ
@@ -16,6 +18,14 @@ code_in f = f.code
 abbrev pub with_code : ℕ → DataType
 with_code n = record { code = n }
 
+-- the digit of each leaf
+abbrev pub leaf_digit : Leaf → ℕ
+leaf_digit Null = 1
+leaf_digit Boolean = 2
+leaf_digit UInt16 = 3
+leaf_digit Int32 = 4
+leaf_digit Int64 = 5
+
 -- a leaf's form: the lowest four bits of d, as the first digit
 abbrev pub leaf_form : ℕ → DataType
 leaf_form d = with_code (d % 16 * 16 ^ (places - 1))
@@ -23,6 +33,10 @@ leaf_form d = with_code (d % 16 * 16 ^ (places - 1))
 -- how many digits a form has: all but the lowest ones that are 0
 abbrev pub digit_count : DataType → ℕ
 digit_count f = places - count_trailing_zeros (4 * places) (code_in f) / 4
+
+-- whether so many digits more have a place: a stop where not
+abbrev pub room_reply : ℕ → DataType → Result (Unit {0}) Stop
+room_reply k f = cond (nat_le (k + digit_count f) places) (Ok tt) (Err (stopped FormTooLong))
 
 -- k digits that write n, in front of a form, whose last digits fall off where there is no place for them
 abbrev pub fronted : ℕ → ℕ → DataType → DataType

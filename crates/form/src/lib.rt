@@ -1,14 +1,14 @@
 #![tactic(auto)]
 
-ghost use Rattle.std.specs.Prelude.{◌≡◌, ◌%◌, length, ◌==◌};
+ghost use Rattle.std.specs.Prelude.{◌≡◌, ◌+◌, ◌-◌, ◌*◌, ◌/◌, ◌%◌, ◌^◌, ◌<◌, length, ◌==◌};
 ghost use Rattle.form.specs.Examples.{Builds, examples, ExamplesHold};
-ghost use Rattle.form.specs.Forms.{code_in, digit_count, fixed_form, fixed_reply, layer_form, layer_reply, leaf_form};
+ghost use Rattle.form.specs.Forms.{code_in, digit_count, fixed_form, fixed_reply, layer_form, layer_reply, leaf_digit, leaf_form, room_reply, with_code};
 ghost use Rattle.form.specs.Laws.{Compares, Counts, Extends};
 ghost use Rattle.form.specs.Shapes.Shape.{Fixed, Layer};
 
 pub mod data_type;
 
-use data_type::DataType;
+use data_type::{DataType, Leaf};
 use ledger::stop::{Reason, Stop};
 
 impl DataType {
@@ -34,9 +34,7 @@ impl DataType {
         ensures answers { result ≡ layer_reply self digit }
         ensures extends { Extends self (Layer (digit % 16)) result }
     {
-        if self.digits() > 15 {
-            return Err(Stop::new(Reason::FormTooLong));
-        }
+        self.check_room(1)?;
         Ok(self.with_layer(digit))
     }
 
@@ -44,9 +42,7 @@ impl DataType {
     pub fn with_layer(self, digit: u8) -> DataType
         ensures { result ≡ layer_form self digit }
     {
-        DataType {
-            code: (digit as u64 & 15) << 60 | self.code >> 4,
-        }
+        self.with_front(digit as u64 & 15, 4)
     }
 
     // The form of a fixed list whose slots have so many entries of this form; it stops as above.
@@ -54,9 +50,7 @@ impl DataType {
         ensures answers { result ≡ fixed_reply self size }
         ensures extends { Extends self (Fixed size) result }
     {
-        if self.digits() > 7 {
-            return Err(Stop::new(Reason::FormTooLong));
-        }
+        self.check_room(9)?;
         Ok(self.with_fixed(size))
     }
 
@@ -65,9 +59,7 @@ impl DataType {
         ensures { result ≡ fixed_form self size }
     {
         let front = 12 << 32 | size as u64;
-        DataType {
-            code: front << 28 | self.code >> 36,
-        }
+        self.with_front(front, 36)
     }
 
     // Whether two forms are the same.
@@ -75,7 +67,37 @@ impl DataType {
         ensures answers { result ≡ (code_in self == code_in other) }
         ensures compares { Compares self other result }
     {
-        self.code == other.code
+        self == other
+    }
+
+    // Stops where the form with so many more digits has more than 16.
+    fn check_room(self, digits: u8) -> Result<(), Stop>
+        ensures { result ≡ room_reply digits self }
+    {
+        if self.digits() + digits as u32 > 16 {
+            return Err(Reason::FormTooLong.into());
+        }
+        Ok(())
+    }
+
+    // The form with so many bits of `front` before its code, whose last bits fall off.
+    fn with_front(self, front: u64, bits: u32) -> DataType
+        requires some { 0 < bits }
+        requires below { bits < 64 }
+        requires fits { front < 2 ^ bits }
+        ensures { result ≡ with_code (front * 2 ^ (64 - bits) + code_in self / 2 ^ bits) }
+    {
+        DataType {
+            code: front << 64 - bits | self.code >> bits,
+        }
+    }
+}
+
+impl From<Leaf> for DataType {
+    ghost from_gives = { λ l f. f ≡ leaf_form (leaf_digit l) };
+
+    fn from(leaf: Leaf) -> DataType {
+        DataType::leaf(leaf as u8)
     }
 }
 

@@ -1,5 +1,4 @@
-use Rattle.std.specs.Prelude.{◌≡◌, ℕ, ◌+◌, ◌*◌, ◌/◌, Bool, cond, Ok, Err, Result, nat_le}
-use Rattle.ledger.specs.declared.ledger.Ledger.{Ledger}
+use Rattle.std.specs.Prelude.{ℕ, ◌+◌, ◌*◌, ◌/◌, Bool, cond, Ok, Err, Result, nat_le, ◌^◌, ◌<◌, ◌≤◌}
 use Rattle.ledger.specs.declared.stop.Reason.TheVariants.{BeyondBytes, NoPlaceLeft}
 use Rattle.ledger.specs.declared.stop.Stop.{Stop}
 use Rattle.ledger.specs.Stops.{stopped}
@@ -10,24 +9,25 @@ pub record Accounts : Type 0 where
   pub loaded : ℕ
   pub end : ℕ
 
-abbrev pub accounts_of : Ledger → Accounts
-accounts_of g = record { length = g.length; loaded = g.loaded; end = g.end }
+-- what holds of every ledger: reservations lie after the loaded bytes and inside the body, whose length has 64 bits
+pub record Kept (a : Accounts) : Type 0 where
+  pub after_loaded : a.loaded ≤ a.end
+  pub inside : a.end ≤ a.length
+  pub sized : a.length < 2 ^ 64
 
 -- the reply of an opening, by what the ledger then holds
 abbrev pub opening : ℕ → ℕ → Result Accounts Stop
 opening length loaded =
     cond (nat_le loaded length) (Ok (record { length = length; loaded = loaded; end = loaded })) (Err (stopped BeyondBytes))
 
-abbrev pub held : Result Ledger Stop → Result Accounts Stop
-held (Ok g) = Ok (accounts_of g)
-held (Err s) = Err s
-
-abbrev pub Opening : ℕ → ℕ → Result Ledger Stop → Type 0
-Opening length loaded r = held r ≡ opening length loaded
-
 -- the first multiple of 8 at or after e
 abbrev pub aligned : ℕ → ℕ
 aligned e = (e + 7) / 8 * 8
+
+-- start and end of a place for so many bytes behind e, in a body of a length
+abbrev pub place_behind : ℕ → ℕ → ℕ → Result (ℕ × ℕ) Stop
+place_behind length e bytes =
+    cond (nat_le (aligned e + bytes) length) (Ok (aligned e, aligned e + bytes)) (Err (stopped NoPlaceLeft))
 
 -- whether so many bytes have a place
 abbrev pub has_place : Accounts → ℕ → Bool

@@ -1,47 +1,50 @@
 ghost use Rattle.std.specs.Prelude.{◌≡◌};
 ghost use Rattle.ledger.specs.Stops.{number_of, passed, stopped};
 
+use std::error::Error;
+use std::fmt;
+
 // Why a call stopped, by the numbers 1 to 19.
 #[derive(Clone, Copy, PartialEq, Eq, Debug)]
 pub enum Reason {
     // The body's length is not the ledger's or the builder's.
-    BodyLengthDiffers,
+    BodyLengthDiffers = 1,
     // Own bytes beyond the loaded ones, more loaded bytes than the body has, or a needed bit beyond the body.
-    BeyondBytes,
+    BeyondBytes = 2,
     // A list has zero offsets.
-    NoOffsets,
+    NoOffsets = 3,
     // The first offset or the fixed size is below 0.
-    BelowZero,
+    BelowZero = 4,
     // An offset is below the one before.
-    OffsetFalls,
+    OffsetFalls = 5,
     // The last offset, or start + size, lies beyond the child.
-    BeyondChild,
+    BeyondChild = 6,
     // start + size is 2^64 or more.
-    RangeOverflows,
+    RangeOverflows = 7,
     // The marks are not as many as the slots.
-    MarkCountDiffers,
+    MarkCountDiffers = 8,
     // The sizes are not as many as the starts.
-    SizeCountDiffers,
+    SizeCountDiffers = 9,
     // The child's length is not slots × size.
-    ChildLengthDiffers,
+    ChildLengthDiffers = 10,
     // The field is not nullable and an entry of the child is absent.
-    EntryAbsent,
+    EntryAbsent = 11,
     // The field's form is not the child's.
-    FormDiffers,
+    FormDiffers = 12,
     // An offset passes its kind's largest, or a length passes 2^62.
-    TooLarge,
+    TooLarge = 13,
     // The body or the reserved slots have no place left.
-    NoPlaceLeft,
+    NoPlaceLeft = 14,
     // The layer lacks the step, or the depth passes the leaf.
-    NoSuchStep,
+    NoSuchStep = 15,
     // A number lies outside the leaf's range.
-    NumberOutOfRange,
+    NumberOutOfRange = 16,
     // A form has more than 16 digits.
-    FormTooLong,
+    FormTooLong = 17,
     // An index is not below the length, or a cut's start + n is above it.
-    IndexPastEnd,
+    IndexPastEnd = 18,
     // A slot's words are no range in the child.
-    NoRange,
+    NoRange = 19,
 }
 
 impl Reason {
@@ -49,27 +52,7 @@ impl Reason {
     pub fn number(self) -> u8
         ensures { result ≡ number_of self }
     {
-        match self {
-            Reason::BodyLengthDiffers => 1,
-            Reason::BeyondBytes => 2,
-            Reason::NoOffsets => 3,
-            Reason::BelowZero => 4,
-            Reason::OffsetFalls => 5,
-            Reason::BeyondChild => 6,
-            Reason::RangeOverflows => 7,
-            Reason::MarkCountDiffers => 8,
-            Reason::SizeCountDiffers => 9,
-            Reason::ChildLengthDiffers => 10,
-            Reason::EntryAbsent => 11,
-            Reason::FormDiffers => 12,
-            Reason::TooLarge => 13,
-            Reason::NoPlaceLeft => 14,
-            Reason::NoSuchStep => 15,
-            Reason::NumberOutOfRange => 16,
-            Reason::FormTooLong => 17,
-            Reason::IndexPastEnd => 18,
-            Reason::NoRange => 19,
-        }
+        self as u8
     }
 }
 
@@ -93,8 +76,25 @@ impl Stop {
         ensures { result ≡ passed self }
     {
         Stop {
-            reason: self.reason,
             depth: self.depth.saturating_add(1),
+            ..self
         }
     }
 }
+
+// `Err(reason)?` stops at the layer called.
+impl From<Reason> for Stop {
+    ghost from_gives = { λ r s. s ≡ stopped r };
+
+    fn from(reason: Reason) -> Stop {
+        Stop::new(reason)
+    }
+}
+
+impl fmt::Display for Stop {
+    fn fmt<W: fmt::Write>(&self, f: &mut fmt::Formatter<W>) -> fmt::Result {
+        write!(f, "stopped by {} ({:?})", self.reason.number(), self.reason)
+    }
+}
+
+impl Error for Stop {}

@@ -1,26 +1,12 @@
-use Rattle.std.proofs.Common.{◌≡◌, ℕ, zero, suc, ◌+◌, ◌*◌, Bool, true, false, cond, not, eqb, ltb, leb, List, [], length, Some, None, Ok, Err, Option, sym, refl, arith, le-leb}
-use Rattle.ledger.specs.declared.stop.Reason.TheVariants.{BeyondBytes, IndexPastEnd}
+use Rattle.std.proofs.Common.{◌≡◌, ℕ, zero, suc, ◌+◌, ◌*◌, Bool, true, false, cond, not, eqb, leb, List, [], length, Some, None, Ok, Err, Option, sym, refl, arith, le-leb}
+use Rattle.ledger.specs.declared.stop.Reason.TheVariants.{BeyondBytes}
 use Rattle.ledger.specs.Stops.{stopped}
 use Rattle.layout.specs.declared.marks.Marks.{Marks}
-use Rattle.layout.specs.Bits.{bit_set, zeros_from, zeros_reply}
+use Rattle.layout.specs.Bits.{zeros_from, zeros_reply}
 use Rattle.layout.specs.Marks.{mark_of, mark_bit, mark_need_of, nulls_reply}
-use Rattle.layout.proofs.NeedLaws.{one_span, marks_reach, zeros_nulls, each_free, counts_all, counts_none}
+use Rattle.layout.proofs.NeedLaws.{marks_reach, zeros_nulls, each_free, counts_all, counts_none}
 use Rattle.layout.proofs.Counting.{zeros_none}
-use Rattle.slots.specs.Replies.{ask_reply, count_reply, or_beyond, present_reply}
-
-leb_ltb : (x n : ℕ) → leb (x + 1) n ≡ ltb x n
-leb_ltb x n = grind arith
-
-two_tests : {X : Type 0} (t u : Bool) (x : X) → cond t (or_beyond (cond u (Some x) None)) (Err (stopped IndexPastEnd)) ≡ cond t (cond u (Ok x) (Err (stopped BeyondBytes))) (Err (stopped IndexPastEnd))
-two_tests true true x = refl
-two_tests true false x = refl
-two_tests false u x = refl
-
--- a mark, by the bits that it needs
-pub asked_mark : (ms : Option Marks) (len : ℕ) (b : List ℕ) (i : ℕ) → present_reply ms len b i ≡ ask_reply len (mark_need_of ms) (mark_of ms b) b i
-asked_mark None len b i = rw (le-leb 0 (8 * length b) (omega arith)) refl
-asked_mark (Some m) len b i =
-    rw (one_span (mark_bit m i), leb_ltb (mark_bit m i) (8 * length b)) (two_tests (ltb i len) (ltb (mark_bit m i) (8 * length b)) (bit_set b (mark_bit m i)))
+use Rattle.slots.specs.Replies.{count_reply, or_beyond}
 
 -- the null marks, by the bits that they need
 pub asked_count : (ms : Option Marks) (len : ℕ) (b : List ℕ) → or_beyond (nulls_reply ms b len) ≡ count_reply len (mark_need_of ms) (λ j. not (mark_of ms b j)) b

@@ -37,10 +37,6 @@ absence_needed s i e h =
     needed_not (slot_need s i) (λ b. slot_mark s b i) (λ b. is_absent (cond (slot_mark s b i) (e b) absent))
     (λ b. absence (slot_mark s b i) (e b) (h b)) (mark_needed s.marks i)
 
-pub null_absent_lem : (m : Bool) (e : Entry) → m ≡ false → is_absent (cond m e absent) ≡ true
-null_absent_lem true e h = let z : ◌≡◌ {A = ℕ} 0 1 = cc in absurd (omega arith)
-null_absent_lem false e h = refl
-
 -- the marks of a trial lie in the loaded bytes
 pub marks_loaded : (nulls : Option NullBuffer) (len loaded k : ℕ) → marks_bytes_end nulls ≤ loaded → marks_reply nulls len ≡ Ok tt → Within (mark_spans (marks_at nulls) len) k → k < 8 * loaded
 marks_loaded None len loaded k l e p = absurd p

@@ -1,4 +1,5 @@
-use Rattle.std.specs.Prelude.{ℕ, ◌+◌, Bool, cond, List, Some, None, Ok, Err, Option, Result, nat_le, nat_lt}
+use Rattle.std.specs.Prelude.{ℕ, ◌+◌, Bool, cond, List, Ok, Err, Option, Result, nat_le, nat_lt}
+use Rattle.std.specs.Option.{ok_or}
 use Rattle.layout.specs.Spans.{Span, in_body}
 use Rattle.layout.specs.Needs.{each, counts}
 use Rattle.layout.specs.declared.marks.Marks.{Marks}
@@ -19,13 +20,11 @@ count_reply size need f b = cond (in_body (each need size) b) (Ok (counts f size
 
 -- what is there, or BeyondBytes
 abbrev pub or_beyond : {X : Type 0} → Option X → Result X Stop
-or_beyond None = Err (stopped BeyondBytes)
-or_beyond (Some x) = Ok x
+or_beyond o = ok_or o (stopped BeyondBytes)
 
 -- what is there, or NoRange
 abbrev pub found : {X : Type 0} → Option X → Result X Stop
-found None = Err (stopped NoRange)
-found (Some x) = Ok x
+found o = ok_or o (stopped NoRange)
 
 -- a question to slot i whose answer may be missing: after the stops above, NoRange
 abbrev pub find_reply : {X : Type 0} → ℕ → (ℕ → List Span) → (ℕ → Option X) → List ℕ → ℕ → Result X Stop

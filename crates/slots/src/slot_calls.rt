@@ -15,7 +15,7 @@ impl Slots {
         ensures { result ≡ slice_reply self.len start n (slots_cut self start n) }
     {
         if n > self.len || start > self.len - n {
-            return Err(Stop::new(Reason::IndexPastEnd));
+            return Err(Reason::IndexPastEnd.into());
         }
         Ok(Slots {
             first: self.first + start,
@@ -28,10 +28,7 @@ impl Slots {
     pub fn is_null(self, body: &[u8], i: u64) -> Result<bool, Stop>
         ensures { result ≡ ask_reply self.len (slot_need self) (λ j. not (slot_mark self body.now j)) body.now i }
     {
-        match self.present(body, i) {
-            Ok(present) => Ok(!present),
-            Err(s) => Err(s),
-        }
+        Ok(!self.present(body, i)?)
     }
 
     // Whether slot i's mark is present.
@@ -45,22 +42,16 @@ impl Slots {
         ensures { result ≡ present_reply self.marks self.len body.now i }
     {
         if i >= self.len {
-            return Err(Stop::new(Reason::IndexPastEnd));
+            return Err(Reason::IndexPastEnd.into());
         }
-        match mark(self.marks, body, i) {
-            Some(present) => Ok(present),
-            None => Err(Stop::new(Reason::BeyondBytes)),
-        }
+        mark(self.marks, body, i).ok_or(Reason::BeyondBytes.into())
     }
 
     // How many slots have a null mark.
     pub fn null_count(self, body: &[u8]) -> Result<u64, Stop>
         ensures { result ≡ count_reply self.len (slot_need self) (λ j. not (slot_mark self body.now j)) body.now }
     {
-        match count_nulls(self.marks, body, self.len) {
-            Some(n) => Ok(n),
-            None => Err(Stop::new(Reason::BeyondBytes)),
-        }
+        count_nulls(self.marks, body, self.len).ok_or(Reason::BeyondBytes.into())
     }
 }
 
@@ -69,10 +60,7 @@ fn marks_from(marks: Option<Marks>, start: u64) -> Option<Marks>
     requires { mark_first marks + start ≤ length_limit }
     ensures { result ≡ marks_from marks start }
 {
-    let Some(m) = marks else {
-        return None;
-    };
-    Some(Marks {
+    marks.map(|m| Marks {
         place: m.place,
         first: m.first + start,
     })

@@ -1,6 +1,6 @@
 ghost use Rattle.std.specs.Prelude.{◌≡◌, ℕ, ◌+◌, ◌*◌, ◌/◌, ◌≤◌, Ok, Err};
-ghost use Rattle.ledger.specs.Ledger.{accounts_of};
-ghost use Rattle.slots.specs.Trials.{bytes_end, bit_bytes, marks_bytes_end, bytes_reply, length_reply, marks_reply, marks_at, new_slots, leaf_reply, and_then};
+ghost use Rattle.ledger.specs.Ledger.{Kept};
+ghost use Rattle.slots.specs.Trials.{bytes_end, bit_bytes, marks_bytes_end, bytes_reply, length_reply, marks_reply, new_slots, leaf_reply, and_then};
 
 use crate::null_buffer::NullBuffer;
 use crate::slots::Slots;
@@ -9,16 +9,13 @@ use ledger::ledger::Ledger;
 use ledger::stop::{Reason, Stop};
 
 // The largest number of slots: 2^62.
-pub const LENGTH_LIMIT: u64 = 4611686018427387904;
+pub const LENGTH_LIMIT: u64 = 1 << 62;
 
 // Where so many bytes from a place on end; 0 where there are none.
 pub fn bytes_end(place: u64, bytes: u64) -> u128
     ensures { result ≡ bytes_end place bytes }
 {
-    if bytes == 0 {
-        return 0;
-    }
-    place as u128 + bytes as u128
+    words_end(1, place, bytes)
 }
 
 // Where so many words of a width from a place on end; 0 where there are none.
@@ -36,17 +33,14 @@ pub fn words_end(width: u64, place: u64, count: u64) -> u128
 pub fn bit_bytes(n: u64) -> u64
     ensures { result ≡ bit_bytes n }
 {
-    ((n as u128 + 7) / 8) as u64
+    n.div_ceil(8)
 }
 
 // The end of the marks.
 fn marks_end(nulls: Option<NullBuffer>) -> u128
     ensures { result ≡ marks_bytes_end nulls }
 {
-    let Some(m) = nulls else {
-        return 0;
-    };
-    bytes_end(m.place, bit_bytes(m.len))
+    nulls.map_or(0, |m| bytes_end(m.place, bit_bytes(m.len)))
 }
 
 // Stops where the body's length is not the ledger's, or where own bytes, which end at `own`, or marks are not loaded.
@@ -56,14 +50,15 @@ pub fn check_bytes(
     own: u128,
     nulls: Option<NullBuffer>,
 ) -> Result<(), Stop>
-    ensures { result ≡ bytes_reply (accounts_of ledger.now) body.now own nulls }
+    ensures answers { result ≡ bytes_reply ledger.now body.now own nulls }
+    ensures keeps { Kept ledger.now }
 {
     if body.len() as u64 != ledger.length() {
-        return Err(Stop::new(Reason::BodyLengthDiffers));
+        return Err(Reason::BodyLengthDiffers.into());
     }
     let loaded = ledger.loaded() as u128;
     if own > loaded || marks_end(nulls) > loaded {
-        return Err(Stop::new(Reason::BeyondBytes));
+        return Err(Reason::BeyondBytes.into());
     }
     Ok(())
 }
@@ -76,21 +71,21 @@ pub fn check_marks(nulls: Option<NullBuffer>, len: u64) -> Result<(), Stop>
         return Ok(());
     };
     if m.len != len {
-        return Err(Stop::new(Reason::MarkCountDiffers));
+        return Err(Reason::MarkCountDiffers.into());
     }
     Ok(())
 }
 
-fn marks_at(nulls: Option<NullBuffer>) -> Option<Marks>
-    ensures { result ≡ marks_at nulls }
-{
-    let Some(m) = nulls else {
-        return None;
-    };
-    Some(Marks {
-        place: m.place,
-        first: 0,
-    })
+// A trial's marks start on a byte.
+impl From<NullBuffer> for Marks {
+    ghost from_gives = { λ m k. k ≡ record { place = m.place; first = 0 } };
+
+    fn from(nulls: NullBuffer) -> Marks {
+        Marks {
+            place: nulls.place,
+            first: 0,
+        }
+    }
 }
 
 impl Slots {
@@ -99,12 +94,12 @@ impl Slots {
         ensures { result ≡ and_then (length_reply len) (Ok (new_slots len nulls)) }
     {
         if len > LENGTH_LIMIT {
-            return Err(Stop::new(Reason::TooLarge));
+            return Err(Reason::TooLarge.into());
         }
         Ok(Slots {
             first: 0,
             len,
-            marks: marks_at(nulls),
+            marks: nulls.map(Marks::from),
         })
     }
 }
@@ -117,7 +112,7 @@ pub fn try_slots(
     len: u64,
     nulls: Option<NullBuffer>,
 ) -> Result<Slots, Stop>
-    ensures { result ≡ leaf_reply (accounts_of ledger.now) body.now own len nulls }
+    ensures { result ≡ leaf_reply ledger.now body.now own len nulls }
 {
     check_bytes(ledger, body, own, nulls)?;
     let slots = Slots::new(len, nulls)?;

@@ -1,6 +1,5 @@
-use Rattle.std.proofs.Common.{rules}
 use Rattle.history.proofs.Leading.{open_leads}
 use Rattle.ledger.proofs.ledger.Ledger.open.Goals as goal
 
-pub returns : goal.returns
-returns c = record { answers = search rules; leads = open_leads c.args.length c.args.loaded }
+pub returns-clause-leads : goal.returns-clause-leads
+returns-clause-leads c = open_leads c.args.length c.args.loaded

@@ -1,4 +1,4 @@
-use Rattle.std.proofs.Common.{◌≤◌, Ok, sym, refl, ap, arith, le-leb}
+use Rattle.std.proofs.Common.{rules, ◌≤◌, Ok, sym, refl, ap, arith, le-leb}
 use Rattle.slots.specs.Bounds.{length_limit}
 use Rattle.slots.specs.Trials.{new_slots}
 use Rattle.slots.proofs.SameSlots.{same_slots, new_len}
@@ -10,4 +10,4 @@ returns c =
     let nulls = c.args.nulls in
     let h : len ≤ length_limit = omega arith in
     rw (le-leb len length_limit h)
-    (ap Ok (same_slots _ (new_slots len nulls) refl (sym (new_len len nulls h)) c.marks_at.ensures))
+    (ap Ok (same_slots _ (new_slots len nulls) refl (sym (new_len len nulls h)) (search rules)))
