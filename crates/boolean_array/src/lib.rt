@@ -123,10 +123,6 @@ impl Array for BooleanArray {
         self.slots.is_null(body, i)
     }
 
-    fn is_valid(&self, body: &[u8], i: u64) -> Result<bool, Stop> {
-        self.slots.is_valid(body, i)
-    }
-
     fn null_count(&self, body: &[u8]) -> Result<u64, Stop> {
         self.slots.null_count(body)
     }
@@ -171,9 +167,6 @@ impl ArrayAccessor for BooleanArray {
         if i >= self.slots.len {
             return Err(Stop::new(Reason::IndexPastEnd));
         }
-        match bit(body, self.bit_number(i)) {
-            Some(v) => Ok(v),
-            None => Err(Stop::new(Reason::BeyondBytes)),
-        }
+        bit(body, self.bit_number(i)).ok_or(Stop::new(Reason::BeyondBytes))
     }
 }

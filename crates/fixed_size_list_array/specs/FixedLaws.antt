@@ -5,7 +5,7 @@ use Rattle.std.proofs.lemmas.Nat.{mul-le}
 use Rattle.history.specs.Entry.{Entry}
 use Rattle.history.specs.Entry.Entry.{window}
 use Rattle.array.specs.Windows.{Inside, window_in}
-use Rattle.array.proofs.ListLaws.{entries_shift}
+use Rattle.array.specs.ItemLaws.{entries_shift}
 use Rattle.fixed_size_list_array.specs.Fixed.{fixed_range, child_start, child_count}
 
 pub fixed_inside : (size entries i : ℕ) → Inside entries (fixed_range size entries i)

@@ -4,15 +4,15 @@ ghost use Rattle.std.specs.Prelude.{◌≡◌, ℕ, ◌+◌, ◌*◌, ◌/◌, �
 ghost use Rattle.std.proofs.Common.{ap, rules};
 ghost use Rattle.form.specs.Forms.{layer_form};
 ghost use Rattle.slots.specs.Slots.{slot_mark, slot_need, slots_cut};
-ghost use Rattle.array.specs.Lists.{list_shown, list_entry, list_spans, list_seen, slice_in, range_numbers, whole_window};
+ghost use Rattle.array.specs.Lists.{list_shown, list_entry, list_spans, list_seen};
 ghost use Rattle.list_array.specs.Offsets.{offset_of, pair_reply, pair_found, range_of, list_range, list_need, list_words};
 ghost use Rattle.layout.proofs.NeedLaws.{mark_needed, needed_into};
-ghost use Rattle.array.proofs.ListLaws.{list_absence, list_mark_alike, list_entry_alike, list_shown_alike, list_within, range_apart, item_told_lem};
+ghost use Rattle.array.proofs.ListLaws.{list_absence, list_mark_alike, list_entry_alike, list_shown_alike, list_within};
 ghost use Rattle.list_array.specs.OffsetLaws.{list_inside, list_range_alike, list_range_cut, list_words_cut, list_needed};
 ghost use Rattle.slots.proofs.Leaves.{slots_mark};
 ghost use Rattle.array.specs.Windows.{window_in};
 
-use array::array::{Array, ArrayAccessor, ListLikeArray};
+use array::array::{Array, ListLikeArray};
 use array::offset_size::OffsetSizeTrait;
 use form::data_type::{DataType, Field};
 use layout::bits::marks_fit;
@@ -59,13 +59,8 @@ fn range_at<O: OffsetSizeTrait>(
 ) -> Result<(u64, u64), Stop>
     ensures { result ≡ pair_found size (pair_reply O.OffsetSizeTrait.width place body.now k) }
 {
-    let Some((lo, hi)) = offset_pair::<O>(body, place, k) else {
-        return Err(Stop::new(Reason::BeyondBytes));
-    };
-    match range_in(size, lo, hi) {
-        Some(range) => Ok(range),
-        None => Err(Stop::new(Reason::NoRange)),
-    }
+    let (lo, hi) = offset_pair::<O>(body, place, k).ok_or(Stop::new(Reason::BeyondBytes))?;
+    range_in(size, lo, hi).ok_or(Stop::new(Reason::NoRange))
 }
 
 impl<O: OffsetSizeTrait, C: Array + Copy> Array for GenericListArray<O, C> {
@@ -145,10 +140,6 @@ impl<O: OffsetSizeTrait, C: Array + Copy> Array for GenericListArray<O, C> {
         self.slots.is_null(body, i)
     }
 
-    fn is_valid(&self, body: &[u8], i: u64) -> Result<bool, Stop> {
-        self.slots.is_valid(body, i)
-    }
-
     fn null_count(&self, body: &[u8]) -> Result<u64, Stop> {
         self.slots.null_count(body)
     }
@@ -205,36 +196,6 @@ impl<O: OffsetSizeTrait, C: Array + Copy> ListLikeArray for GenericListArray<O, 
             return Err(Stop::new(Reason::IndexPastEnd));
         }
         range_at::<O>(body, self.place, self.slots.first + i, self.child.len())
-    }
-}
-
-impl<O: OffsetSizeTrait, C: Array + Copy> ArrayAccessor for GenericListArray<O, C> {
-    type Item = C;
-
-    ghost item = { λ a b i. slice_in (C.Array.cut a.child) (list_range O.OffsetSizeTrait.width a.place a.slots (C.Array.size a.child) b i) };
-
-    ghost source = { λ a b i. range_numbers (list_range O.OffsetSizeTrait.width a.place a.slots (C.Array.size a.child) b i) };
-
-    ghost item_need = { λ a. list_need O.OffsetSizeTrait.width a.place a.slots };
-
-    ghost told = { λ h b. whole_window (C.Array.size h) (C.Array.entry h b) };
-
-    ghost item_needs = { λ a i l.
-        let w = O.OffsetSizeTrait.width in
-        let cs = C.Array.size a.child in
-        needed_into (list_need w a.place a.slots i) (λ b. list_range w a.place a.slots cs b i) range_numbers range_apart (list_needed w a.place a.slots cs i) };
-
-    ghost item_from = { λ a b c i l e. ap (slice_in (C.Array.cut a.child)) (range_apart _ _ e) };
-
-    ghost item_told = { λ a b i x l e m.
-        let w = O.OffsetSizeTrait.width in
-        let cs = C.Array.size a.child in
-        rw m (item_told_lem cs (C.Array.entry a.child b) (C.Array.cut a.child) C.Array.size (λ h. C.Array.entry h b) (list_range w a.place a.slots cs b i) (list_inside w a.place a.slots cs b i l)
-        (λ s n k. C.Array.cut_size a.child s n k) (λ s n k j q. C.Array.cut_entry a.child s n k b j q) x e) };
-
-    fn value(&self, body: &[u8], i: u64) -> Result<C, Stop> {
-        let (from, to) = self.element_range(body, i)?;
-        self.child.slice(from, to - from)
     }
 }
 

@@ -5,15 +5,15 @@ ghost use Rattle.std.proofs.Common.{ap, rules};
 ghost use Rattle.layout.specs.Words.{signed_reply};
 ghost use Rattle.form.specs.Forms.{layer_form};
 ghost use Rattle.slots.specs.Slots.{slot_mark, slot_need, slots_cut};
-ghost use Rattle.array.specs.Lists.{list_shown, list_entry, list_spans, list_seen, slice_in, range_numbers, whole_window};
+ghost use Rattle.array.specs.Lists.{list_shown, list_entry, list_spans, list_seen};
 ghost use Rattle.list_view_array.specs.Views.{view_of, view_found, view_reply, view_range, view_need, view_words};
 ghost use Rattle.layout.proofs.NeedLaws.{mark_needed, needed_into};
-ghost use Rattle.array.proofs.ListLaws.{list_absence, list_mark_alike, list_entry_alike, list_shown_alike, list_within, range_apart, item_told_lem};
+ghost use Rattle.array.proofs.ListLaws.{list_absence, list_mark_alike, list_entry_alike, list_shown_alike, list_within};
 ghost use Rattle.list_view_array.specs.ViewLaws.{view_inside, view_range_alike, view_range_cut, view_words_cut, view_needed, few_bytes};
 ghost use Rattle.slots.proofs.Leaves.{slots_mark};
 ghost use Rattle.array.specs.Windows.{window_in};
 
-use array::array::{Array, ArrayAccessor, ListLikeArray};
+use array::array::{Array, ListLikeArray};
 use array::offset_size::OffsetSizeTrait;
 use form::data_type::{DataType, Field};
 use layout::bits::marks_fit;
@@ -63,16 +63,9 @@ fn view_at<O: OffsetSizeTrait>(
 ) -> Result<(u64, u64), Stop>
     ensures { result ≡ view_found size (view_reply O.OffsetSizeTrait.width starts sizes body.now k) }
 {
-    let Some(start) = word_number::<O>(body, starts, k) else {
-        return Err(Stop::new(Reason::BeyondBytes));
-    };
-    let Some(count) = word_number::<O>(body, sizes, k) else {
-        return Err(Stop::new(Reason::BeyondBytes));
-    };
-    match view_in(size, start, count) {
-        Some(range) => Ok(range),
-        None => Err(Stop::new(Reason::NoRange)),
-    }
+    let start = word_number::<O>(body, starts, k).ok_or(Stop::new(Reason::BeyondBytes))?;
+    let count = word_number::<O>(body, sizes, k).ok_or(Stop::new(Reason::BeyondBytes))?;
+    view_in(size, start, count).ok_or(Stop::new(Reason::NoRange))
 }
 
 impl<O: OffsetSizeTrait, C: Array + Copy> Array for GenericListViewArray<O, C> {
@@ -152,10 +145,6 @@ impl<O: OffsetSizeTrait, C: Array + Copy> Array for GenericListViewArray<O, C> {
         self.slots.is_null(body, i)
     }
 
-    fn is_valid(&self, body: &[u8], i: u64) -> Result<bool, Stop> {
-        self.slots.is_valid(body, i)
-    }
-
     fn null_count(&self, body: &[u8]) -> Result<u64, Stop> {
         self.slots.null_count(body)
     }
@@ -221,36 +210,6 @@ impl<O: OffsetSizeTrait, C: Array + Copy> ListLikeArray for GenericListViewArray
             self.slots.first + i,
             self.child.len(),
         )
-    }
-}
-
-impl<O: OffsetSizeTrait, C: Array + Copy> ArrayAccessor for GenericListViewArray<O, C> {
-    type Item = C;
-
-    ghost item = { λ a b i. slice_in (C.Array.cut a.child) (view_range O.OffsetSizeTrait.width a.starts a.sizes a.slots (C.Array.size a.child) b i) };
-
-    ghost source = { λ a b i. range_numbers (view_range O.OffsetSizeTrait.width a.starts a.sizes a.slots (C.Array.size a.child) b i) };
-
-    ghost item_need = { λ a. view_need O.OffsetSizeTrait.width a.starts a.sizes a.slots };
-
-    ghost told = { λ h b. whole_window (C.Array.size h) (C.Array.entry h b) };
-
-    ghost item_needs = { λ a i l.
-        let w = O.OffsetSizeTrait.width in
-        let cs = C.Array.size a.child in
-        needed_into (view_need w a.starts a.sizes a.slots i) (λ b. view_range w a.starts a.sizes a.slots cs b i) range_numbers range_apart (view_needed w a.starts a.sizes a.slots cs (few_bytes O.OffsetSizeTrait.width O.OffsetSizeTrait.known) i) };
-
-    ghost item_from = { λ a b c i l e. ap (slice_in (C.Array.cut a.child)) (range_apart _ _ e) };
-
-    ghost item_told = { λ a b i x l e m.
-        let w = O.OffsetSizeTrait.width in
-        let cs = C.Array.size a.child in
-        rw m (item_told_lem cs (C.Array.entry a.child b) (C.Array.cut a.child) C.Array.size (λ h. C.Array.entry h b) (view_range w a.starts a.sizes a.slots cs b i) (view_inside w a.starts a.sizes a.slots cs b i l)
-        (λ s n k. C.Array.cut_size a.child s n k) (λ s n k j q. C.Array.cut_entry a.child s n k b j q) x e) };
-
-    fn value(&self, body: &[u8], i: u64) -> Result<C, Stop> {
-        let (from, to) = self.element_range(body, i)?;
-        self.child.slice(from, to - from)
     }
 }
 

@@ -103,13 +103,6 @@ impl Array for NullArray {
         Ok(false)
     }
 
-    fn is_valid(&self, _body: &[u8], i: u64) -> Result<bool, Stop> {
-        if i >= self.len {
-            return Err(Stop::new(Reason::IndexPastEnd));
-        }
-        Ok(true)
-    }
-
     fn null_count(&self, _body: &[u8]) -> Result<u64, Stop> {
         Ok(0)
     }

@@ -131,10 +131,6 @@ impl<T: ArrowPrimitiveType> Array for PrimitiveArray<T> {
         self.slots.is_null(body, i)
     }
 
-    fn is_valid(&self, body: &[u8], i: u64) -> Result<bool, Stop> {
-        self.slots.is_valid(body, i)
-    }
-
     fn null_count(&self, body: &[u8]) -> Result<u64, Stop> {
         self.slots.null_count(body)
     }
