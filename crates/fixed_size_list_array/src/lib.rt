@@ -5,10 +5,10 @@ ghost use Rattle.std.proofs.Common.{ap, rules};
 ghost use Rattle.form.specs.Forms.{fixed_form};
 ghost use Rattle.slots.specs.Slots.{slot_mark, slot_need, slots_cut};
 ghost use Rattle.array.specs.Lists.{list_shown, list_entry, list_spans, list_seen};
-ghost use Rattle.fixed_size_list_array.specs.Fixed.{fixed_range, child_start, child_count};
+ghost use Rattle.fixed_size_list_array.specs.Fixed.{fixed_range, ranges_of, child_start, child_count};
 ghost use Rattle.layout.proofs.NeedLaws.{mark_needed, needed_none};
 ghost use Rattle.array.proofs.ListLaws.{list_absence, list_mark_alike, list_entry_alike, list_shown_alike, list_within};
-ghost use Rattle.fixed_size_list_array.specs.FixedLaws.{cut_window, fixed_inside, child_fits};
+ghost use Rattle.fixed_size_list_array.specs.FixedLaws.{cut_window, fixed_inside, child_fits, ranged};
 ghost use Rattle.slots.proofs.Leaves.{slots_mark};
 
 use array::array::{Array, ListLikeArray};
@@ -54,17 +54,17 @@ impl<C: Array + Copy> Array for FixedSizeListArray<C> {
 
     ghost mark_need = { λ a. slot_need a.slots };
 
-    ghost entry = { λ a. list_entry a.slots (C.Array.entry a.child) (λ b. fixed_range a.size (C.Array.size a.child)) };
+    ghost entry = { λ a. list_entry a.slots (C.Array.entry a.child) (ranges_of C.Array.size a) };
 
     ghost absent_need = { λ a. slot_need a.slots };
 
-    ghost shown = { λ a. list_shown (C.Array.entry a.child) (λ b. fixed_range a.size (C.Array.size a.child)) };
+    ghost shown = { λ a. list_shown (C.Array.entry a.child) (ranges_of C.Array.size a) };
 
     ghost spans = { λ a. list_spans a.slots [] (C.Array.spans a.child) };
 
     ghost cut = { λ a s n. record { slots = slots_cut a.slots s n; size = a.size; field = a.field; child = C.Array.cut a.child (child_start a.size (C.Array.size a.child) s) (child_count a.size (C.Array.size a.child) s n) } };
 
-    ghost seen = { λ a. list_seen a.slots (C.Array.entry a.child) (λ b. fixed_range a.size (C.Array.size a.child)) [] (C.Array.spans a.child) };
+    ghost seen = { λ a. list_seen a.slots (C.Array.entry a.child) (ranges_of C.Array.size a) [] (C.Array.spans a.child) };
 
     ghost sight = { Prim.search rules };
 
@@ -76,21 +76,13 @@ impl<C: Array + Copy> Array for FixedSizeListArray<C> {
 
     ghost mark_needs = { λ a i l. mark_needed a.slots.marks i };
 
-    ghost absent_needs = { λ a i l. list_absence a.slots i (C.Array.entry a.child) (λ b. fixed_range a.size (C.Array.size a.child)) };
+    ghost absent_needs = { λ a i l. list_absence a.slots i (C.Array.entry a.child) (ranges_of C.Array.size a) };
 
-    ghost mark_alike = { λ a.
-        let cs = C.Array.size a.child in
-        list_mark_alike a.slots cs (C.Array.entry a.child) (λ b. fixed_range a.size cs) [] (C.Array.spans a.child) };
+    ghost mark_alike = { λ a. list_mark_alike (ranged C.Array.size a) (C.Array.spans a.child) };
 
-    ghost entry_alike = { λ a.
-        let cs = C.Array.size a.child in
-        list_entry_alike a.slots cs (C.Array.entry a.child) (λ b. fixed_range a.size cs) [] (C.Array.spans a.child)
-        (λ b i l. fixed_inside a.size cs i) (λ b c h i l. refl) (C.Array.entry_alike a.child) };
+    ghost entry_alike = { λ a. list_entry_alike (ranged C.Array.size a) (C.Array.spans a.child) (C.Array.entry_alike a.child) };
 
-    ghost shown_alike = { λ a.
-        let cs = C.Array.size a.child in
-        list_shown_alike a.slots cs (C.Array.entry a.child) (λ b. fixed_range a.size cs) [] (C.Array.spans a.child)
-        (λ b i l. fixed_inside a.size cs i) (λ b c h i l. refl) (C.Array.entry_alike a.child) };
+    ghost shown_alike = { λ a. list_shown_alike (ranged C.Array.size a) (C.Array.spans a.child) (C.Array.entry_alike a.child) };
 
     ghost cut_size = { Prim.search rules };
 
@@ -174,7 +166,7 @@ impl<C: Array + Copy> ListLikeArray for FixedSizeListArray<C> {
 
     ghost child = { λ a. a.child };
 
-    ghost range = { λ a b. fixed_range a.size (C.Array.size a.child) };
+    ghost range = { ranges_of C.Array.size };
 
     ghost range_need = { λ a i. [] };
 

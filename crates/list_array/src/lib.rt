@@ -5,10 +5,10 @@ ghost use Rattle.std.proofs.Common.{ap, rules};
 ghost use Rattle.form.specs.Forms.{layer_form};
 ghost use Rattle.slots.specs.Slots.{slot_mark, slot_need, slots_cut};
 ghost use Rattle.array.specs.Lists.{list_shown, list_entry, list_spans, list_seen};
-ghost use Rattle.list_array.specs.Offsets.{offset_of, pair_reply, pair_found, range_of, list_range, list_need, list_words};
+ghost use Rattle.list_array.specs.Offsets.{offset_of, pair_reply, pair_found, range_of, list_need, list_words, ranges_of, words_of};
 ghost use Rattle.layout.proofs.NeedLaws.{mark_needed, needed_into};
 ghost use Rattle.array.proofs.ListLaws.{list_absence, list_mark_alike, list_entry_alike, list_shown_alike, list_within};
-ghost use Rattle.list_array.specs.OffsetLaws.{list_inside, list_range_alike, list_range_cut, list_words_cut, list_needed};
+ghost use Rattle.list_array.specs.OffsetLaws.{list_inside, list_range_cut, list_words_cut, list_needed, ranged};
 ghost use Rattle.slots.proofs.Leaves.{slots_mark};
 ghost use Rattle.array.specs.Windows.{window_in};
 
@@ -72,17 +72,17 @@ impl<O: OffsetSizeTrait, C: Array + Copy> Array for GenericListArray<O, C> {
 
     ghost mark_need = { λ a. slot_need a.slots };
 
-    ghost entry = { λ a. list_entry a.slots (C.Array.entry a.child) (list_range O.OffsetSizeTrait.width a.place a.slots (C.Array.size a.child)) };
+    ghost entry = { λ a. list_entry a.slots (C.Array.entry a.child) (ranges_of O.OffsetSizeTrait.width C.Array.size a) };
 
     ghost absent_need = { λ a. slot_need a.slots };
 
-    ghost shown = { λ a. list_shown (C.Array.entry a.child) (list_range O.OffsetSizeTrait.width a.place a.slots (C.Array.size a.child)) };
+    ghost shown = { λ a. list_shown (C.Array.entry a.child) (ranges_of O.OffsetSizeTrait.width C.Array.size a) };
 
-    ghost spans = { λ a. list_spans a.slots (list_words O.OffsetSizeTrait.width a.place a.slots) (C.Array.spans a.child) };
+    ghost spans = { λ a. list_spans a.slots (words_of O.OffsetSizeTrait.width a) (C.Array.spans a.child) };
 
     ghost cut = { λ a s n. record { place = a.place; slots = slots_cut a.slots s n; field = a.field; child = a.child; kind = a.kind } };
 
-    ghost seen = { λ a. list_seen a.slots (C.Array.entry a.child) (list_range O.OffsetSizeTrait.width a.place a.slots (C.Array.size a.child)) (list_words O.OffsetSizeTrait.width a.place a.slots) (C.Array.spans a.child) };
+    ghost seen = { λ a. list_seen a.slots (C.Array.entry a.child) (ranges_of O.OffsetSizeTrait.width C.Array.size a) (words_of O.OffsetSizeTrait.width a) (C.Array.spans a.child) };
 
     ghost sight = { Prim.search rules };
 
@@ -94,24 +94,13 @@ impl<O: OffsetSizeTrait, C: Array + Copy> Array for GenericListArray<O, C> {
 
     ghost mark_needs = { λ a i l. mark_needed a.slots.marks i };
 
-    ghost absent_needs = { λ a i l. list_absence a.slots i (C.Array.entry a.child) (list_range O.OffsetSizeTrait.width a.place a.slots (C.Array.size a.child)) };
+    ghost absent_needs = { λ a i l. list_absence a.slots i (C.Array.entry a.child) (ranges_of O.OffsetSizeTrait.width C.Array.size a) };
 
-    ghost mark_alike = { λ a.
-        let w = O.OffsetSizeTrait.width in
-        let size = C.Array.size a.child in
-        list_mark_alike a.slots size (C.Array.entry a.child) (list_range w a.place a.slots size) (list_words w a.place a.slots) (C.Array.spans a.child) };
+    ghost mark_alike = { λ a. list_mark_alike (ranged O.OffsetSizeTrait.width C.Array.size a) (C.Array.spans a.child) };
 
-    ghost entry_alike = { λ a.
-        let w = O.OffsetSizeTrait.width in
-        let size = C.Array.size a.child in
-        list_entry_alike a.slots size (C.Array.entry a.child) (list_range w a.place a.slots size) (list_words w a.place a.slots) (C.Array.spans a.child)
-        (list_inside w a.place a.slots size) (list_range_alike w a.place a.slots size) (C.Array.entry_alike a.child) };
+    ghost entry_alike = { λ a. list_entry_alike (ranged O.OffsetSizeTrait.width C.Array.size a) (C.Array.spans a.child) (C.Array.entry_alike a.child) };
 
-    ghost shown_alike = { λ a.
-        let w = O.OffsetSizeTrait.width in
-        let size = C.Array.size a.child in
-        list_shown_alike a.slots size (C.Array.entry a.child) (list_range w a.place a.slots size) (list_words w a.place a.slots) (C.Array.spans a.child)
-        (list_inside w a.place a.slots size) (list_range_alike w a.place a.slots size) (C.Array.entry_alike a.child) };
+    ghost shown_alike = { λ a. list_shown_alike (ranged O.OffsetSizeTrait.width C.Array.size a) (C.Array.spans a.child) (C.Array.entry_alike a.child) };
 
     ghost cut_size = { Prim.search rules };
 
@@ -125,7 +114,7 @@ impl<O: OffsetSizeTrait, C: Array + Copy> Array for GenericListArray<O, C> {
 
     ghost cut_spans = { λ a s n l.
         let w = O.OffsetSizeTrait.width in
-        list_within a.slots s n (list_words w a.place a.slots) (list_words w a.place (slots_cut a.slots s n)) (C.Array.spans a.child) (C.Array.spans a.child) l
+        list_within a.slots s n (words_of w a) (list_words w a.place (slots_cut a.slots s n)) (C.Array.spans a.child) (C.Array.spans a.child) l
         (list_words_cut w a.place a.slots (C.Array.size a.child) s n l) (λ k p. p) };
 
     fn len(&self) -> u64 {
@@ -175,7 +164,7 @@ impl<O: OffsetSizeTrait, C: Array + Copy> ListLikeArray for GenericListArray<O, 
 
     ghost child = { λ a. a.child };
 
-    ghost range = { λ a. list_range O.OffsetSizeTrait.width a.place a.slots (C.Array.size a.child) };
+    ghost range = { ranges_of O.OffsetSizeTrait.width C.Array.size };
 
     ghost range_need = { λ a. list_need O.OffsetSizeTrait.width a.place a.slots };
 

@@ -6,10 +6,10 @@ ghost use Rattle.layout.specs.Words.{signed_reply};
 ghost use Rattle.form.specs.Forms.{layer_form};
 ghost use Rattle.slots.specs.Slots.{slot_mark, slot_need, slots_cut};
 ghost use Rattle.array.specs.Lists.{list_shown, list_entry, list_spans, list_seen};
-ghost use Rattle.list_view_array.specs.Views.{view_of, view_found, view_reply, view_range, view_need, view_words};
+ghost use Rattle.list_view_array.specs.Views.{view_of, view_found, view_reply, view_need, view_words, ranges_of, words_of};
 ghost use Rattle.layout.proofs.NeedLaws.{mark_needed, needed_into};
 ghost use Rattle.array.proofs.ListLaws.{list_absence, list_mark_alike, list_entry_alike, list_shown_alike, list_within};
-ghost use Rattle.list_view_array.specs.ViewLaws.{view_inside, view_range_alike, view_range_cut, view_words_cut, view_needed, few_bytes};
+ghost use Rattle.list_view_array.specs.ViewLaws.{view_inside, view_range_cut, view_words_cut, view_needed, few_bytes, ranged};
 ghost use Rattle.slots.proofs.Leaves.{slots_mark};
 ghost use Rattle.array.specs.Windows.{window_in};
 
@@ -77,17 +77,17 @@ impl<O: OffsetSizeTrait, C: Array + Copy> Array for GenericListViewArray<O, C> {
 
     ghost mark_need = { λ a. slot_need a.slots };
 
-    ghost entry = { λ a. list_entry a.slots (C.Array.entry a.child) (view_range O.OffsetSizeTrait.width a.starts a.sizes a.slots (C.Array.size a.child)) };
+    ghost entry = { λ a. list_entry a.slots (C.Array.entry a.child) (ranges_of O.OffsetSizeTrait.width C.Array.size a) };
 
     ghost absent_need = { λ a. slot_need a.slots };
 
-    ghost shown = { λ a. list_shown (C.Array.entry a.child) (view_range O.OffsetSizeTrait.width a.starts a.sizes a.slots (C.Array.size a.child)) };
+    ghost shown = { λ a. list_shown (C.Array.entry a.child) (ranges_of O.OffsetSizeTrait.width C.Array.size a) };
 
-    ghost spans = { λ a. list_spans a.slots (view_words O.OffsetSizeTrait.width a.starts a.sizes a.slots) (C.Array.spans a.child) };
+    ghost spans = { λ a. list_spans a.slots (words_of O.OffsetSizeTrait.width a) (C.Array.spans a.child) };
 
     ghost cut = { λ a s n. record { starts = a.starts; sizes = a.sizes; slots = slots_cut a.slots s n; field = a.field; child = a.child; kind = a.kind } };
 
-    ghost seen = { λ a. list_seen a.slots (C.Array.entry a.child) (view_range O.OffsetSizeTrait.width a.starts a.sizes a.slots (C.Array.size a.child)) (view_words O.OffsetSizeTrait.width a.starts a.sizes a.slots) (C.Array.spans a.child) };
+    ghost seen = { λ a. list_seen a.slots (C.Array.entry a.child) (ranges_of O.OffsetSizeTrait.width C.Array.size a) (words_of O.OffsetSizeTrait.width a) (C.Array.spans a.child) };
 
     ghost sight = { Prim.search rules };
 
@@ -99,24 +99,13 @@ impl<O: OffsetSizeTrait, C: Array + Copy> Array for GenericListViewArray<O, C> {
 
     ghost mark_needs = { λ a i l. mark_needed a.slots.marks i };
 
-    ghost absent_needs = { λ a i l. list_absence a.slots i (C.Array.entry a.child) (view_range O.OffsetSizeTrait.width a.starts a.sizes a.slots (C.Array.size a.child)) };
+    ghost absent_needs = { λ a i l. list_absence a.slots i (C.Array.entry a.child) (ranges_of O.OffsetSizeTrait.width C.Array.size a) };
 
-    ghost mark_alike = { λ a.
-        let w = O.OffsetSizeTrait.width in
-        let size = C.Array.size a.child in
-        list_mark_alike a.slots size (C.Array.entry a.child) (view_range w a.starts a.sizes a.slots size) (view_words w a.starts a.sizes a.slots) (C.Array.spans a.child) };
+    ghost mark_alike = { λ a. list_mark_alike (ranged O.OffsetSizeTrait.width C.Array.size a) (C.Array.spans a.child) };
 
-    ghost entry_alike = { λ a.
-        let w = O.OffsetSizeTrait.width in
-        let size = C.Array.size a.child in
-        list_entry_alike a.slots size (C.Array.entry a.child) (view_range w a.starts a.sizes a.slots size) (view_words w a.starts a.sizes a.slots) (C.Array.spans a.child)
-        (view_inside w a.starts a.sizes a.slots size) (view_range_alike w a.starts a.sizes a.slots size) (C.Array.entry_alike a.child) };
+    ghost entry_alike = { λ a. list_entry_alike (ranged O.OffsetSizeTrait.width C.Array.size a) (C.Array.spans a.child) (C.Array.entry_alike a.child) };
 
-    ghost shown_alike = { λ a.
-        let w = O.OffsetSizeTrait.width in
-        let size = C.Array.size a.child in
-        list_shown_alike a.slots size (C.Array.entry a.child) (view_range w a.starts a.sizes a.slots size) (view_words w a.starts a.sizes a.slots) (C.Array.spans a.child)
-        (view_inside w a.starts a.sizes a.slots size) (view_range_alike w a.starts a.sizes a.slots size) (C.Array.entry_alike a.child) };
+    ghost shown_alike = { λ a. list_shown_alike (ranged O.OffsetSizeTrait.width C.Array.size a) (C.Array.spans a.child) (C.Array.entry_alike a.child) };
 
     ghost cut_size = { Prim.search rules };
 
@@ -130,7 +119,7 @@ impl<O: OffsetSizeTrait, C: Array + Copy> Array for GenericListViewArray<O, C> {
 
     ghost cut_spans = { λ a s n l.
         let w = O.OffsetSizeTrait.width in
-        list_within a.slots s n (view_words w a.starts a.sizes a.slots) (view_words w a.starts a.sizes (slots_cut a.slots s n)) (C.Array.spans a.child) (C.Array.spans a.child) l
+        list_within a.slots s n (words_of w a) (view_words w a.starts a.sizes (slots_cut a.slots s n)) (C.Array.spans a.child) (C.Array.spans a.child) l
         (view_words_cut w a.starts a.sizes a.slots (C.Array.size a.child) s n l) (λ k p. p) };
 
     fn len(&self) -> u64 {
@@ -183,7 +172,7 @@ impl<O: OffsetSizeTrait, C: Array + Copy> ListLikeArray for GenericListViewArray
 
     ghost child = { λ a. a.child };
 
-    ghost range = { λ a. view_range O.OffsetSizeTrait.width a.starts a.sizes a.slots (C.Array.size a.child) };
+    ghost range = { ranges_of O.OffsetSizeTrait.width C.Array.size };
 
     ghost range_need = { λ a. view_need O.OffsetSizeTrait.width a.starts a.sizes a.slots };
 
