@@ -1,4 +1,3 @@
-ghost use Rattle.std.specs.Prelude.{◌≡◌, ℕ, ◌+◌, ◌-◌, ◌<◌, ◌≤◌, refl};
 ghost use Rattle.std.proofs.Common.{ap};
 ghost use Rattle.layout.proofs.NeedLaws.{needed_into};
 ghost use Rattle.array.specs.Lists.{slice_in, range_numbers, whole_window};

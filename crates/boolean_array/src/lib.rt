@@ -1,6 +1,6 @@
 #![tactic(auto)]
 
-ghost use Rattle.std.specs.Prelude.{◌≡◌, ℕ, ◌+◌, ◌≤◌, [], Some, MatchResult, refl};
+ghost use Rattle.std.specs.Prelude.{◌≡◌, [], Some, MatchResult, refl};
 ghost use Rattle.layout.specs.Bits.{bit_set};
 ghost use Rattle.history.specs.Calls.{TrialLeads, StopLeads};
 ghost use Rattle.form.specs.Forms.{leaf_form};

@@ -1,4 +1,4 @@
-ghost use Rattle.std.specs.Prelude.{◌≡◌, ℕ, ◌+◌, ◌*◌, ◌/◌, ◌^◌, ◌<◌, ◌≤◌, length};
+ghost use Rattle.std.specs.Prelude.{◌≡◌, ◌+◌, ◌*◌, ◌/◌, ◌^◌, ◌<◌, ◌≤◌, length};
 ghost use Rattle.layout.specs.Bits.{bit_set, bit_reply, zeros_from, zeros_reply};
 ghost use Rattle.layout.specs.Marks.{mark_reply, nulls_reply, mark_spans};
 ghost use Rattle.layout.specs.Laws.{ValidWhereBitSet, ZerosAreNulls};
@@ -13,6 +13,7 @@ pub fn bit(body: &[u8], at: u128) -> Option<bool>
     (at < body.len() as u128 * 8).then(|| bit_in(body, at))
 }
 
+#[tactic(auto, using(std::proofs::lemmas::Nat::and_mask))]
 fn bit_in(body: &[u8], at: u128) -> bool
     requires { at < 8 * length body.now }
     ensures { result ≡ bit_set body.now at }
@@ -27,11 +28,8 @@ pub fn count_zeros(body: &[u8], at: u128, n: u64) -> Option<u64>
     if n == 0 {
         return Some(0);
     }
-    let bits = body.len() as u128 * 8;
-    if n as u128 > bits || at > bits - n as u128 {
-        return None;
-    }
-    Some(zeros_in(body, at, n))
+    let end = at.checked_add(n as u128)?;
+    (end <= body.len() as u128 * 8).then(|| zeros_in(body, at, n))
 }
 
 // The bits up to the next whole byte, then whole words of 64 bits, then the rest.
@@ -88,6 +86,7 @@ impl Marks {
 }
 
 // Whether slot k is present, or nothing where its mark lies beyond the body.
+#[tactic(auto, using(crate::proofs::WordLaws::valid_where_set))]
 pub fn mark(marks: Option<Marks>, body: &[u8], k: u64) -> Option<bool>
     ensures answers { result ≡ mark_reply marks body.now k }
     ensures valid { ValidWhereBitSet }
@@ -99,6 +98,7 @@ pub fn mark(marks: Option<Marks>, body: &[u8], k: u64) -> Option<bool>
 }
 
 // How many of the first n slots have a null mark, or nothing where one of the marks lies beyond the body.
+#[tactic(auto, using(crate::proofs::NeedLaws::zeros_nulls))]
 pub fn count_nulls(marks: Option<Marks>, body: &[u8], n: u64) -> Option<u64>
     ensures answers { result ≡ nulls_reply marks body.now n }
     ensures plain { ZerosAreNulls }

@@ -1,12 +1,12 @@
 #![tactic(auto)]
 
-ghost use Rattle.std.specs.Prelude.{◌≡◌, ℕ, ◌+◌, ◌*◌, ◌/◌, ◌<◌, ◌≤◌, List, length, refl};
+ghost use Rattle.std.specs.Prelude.{◌≡◌, ◌+◌, ◌/◌, refl};
 ghost use Rattle.std.proofs.Common.{ap, rules};
 ghost use Rattle.form.specs.Forms.{layer_form};
 ghost use Rattle.slots.specs.Slots.{slot_mark, slot_need, slots_cut};
 ghost use Rattle.array.specs.Lists.{list_shown, list_entry, list_spans, list_seen};
-ghost use Rattle.list_array.specs.Offsets.{offset_of, pair_reply, pair_found, range_of, list_need, list_words, ranges_of, words_of};
-ghost use Rattle.layout.proofs.NeedLaws.{mark_needed, needed_into};
+ghost use Rattle.list_array.specs.Offsets.{pair_reply, pair_found, range_of, list_need, list_words, ranges_of, words_of};
+ghost use Rattle.layout.proofs.NeedLaws.{mark_needed};
 ghost use Rattle.array.proofs.ListLaws.{list_absence, list_mark_alike, list_entry_alike, list_shown_alike, list_within};
 ghost use Rattle.list_array.specs.OffsetLaws.{list_inside, list_range_cut, list_words_cut, list_needed, ranged};
 ghost use Rattle.slots.proofs.Leaves.{slots_mark};
@@ -44,10 +44,9 @@ pub fn offset_pair<O: OffsetSizeTrait>(body: &[u8], place: u64, k: u64) -> Optio
 pub fn range_in(size: u64, lo: i64, hi: i64) -> Option<(u64, u64)>
     ensures { result ≡ range_of size lo hi }
 {
-    if lo < 0 || hi < lo || hi as u64 > size {
-        return None;
-    }
-    Some((lo as u64, hi as u64))
+    let from = u64::try_from(lo).ok()?;
+    let end = u64::try_from(hi).ok()?;
+    (from <= end && end <= size).then_some((from, end))
 }
 
 // The range of two offsets in a child of so many entries.
@@ -150,12 +149,12 @@ impl<O: OffsetSizeTrait, C: Array + Copy> Array for GenericListArray<O, C> {
 
     fn fits(&self, body: &[u8]) -> bool {
         let len = self.len();
-        if len == 0 {
-            return true;
-        }
         let end = self.place as u128
             + O::width() as u128 * (self.slots.first as u128 + len as u128 + 1);
-        end <= body.len() as u128 && marks_fit(self.slots.marks, body, len) && self.child.fits(body)
+        len == 0
+            || end <= body.len() as u128
+                && marks_fit(self.slots.marks, body, len)
+                && self.child.fits(body)
     }
 }
 

@@ -1,13 +1,13 @@
 #![tactic(auto)]
 
-ghost use Rattle.std.specs.Prelude.{◌≡◌, ℕ, ◌+◌, ◌*◌, ◌/◌, ◌<◌, ◌≤◌, List, length, nat_le, refl};
+ghost use Rattle.std.specs.Prelude.{◌≡◌, ◌+◌, ◌*◌, ◌/◌, length, nat_le, refl};
 ghost use Rattle.std.proofs.Common.{ap, rules};
 ghost use Rattle.layout.specs.Words.{signed_reply};
 ghost use Rattle.form.specs.Forms.{layer_form};
 ghost use Rattle.slots.specs.Slots.{slot_mark, slot_need, slots_cut};
 ghost use Rattle.array.specs.Lists.{list_shown, list_entry, list_spans, list_seen};
 ghost use Rattle.list_view_array.specs.Views.{view_of, view_found, view_reply, view_need, view_words, ranges_of, words_of};
-ghost use Rattle.layout.proofs.NeedLaws.{mark_needed, needed_into};
+ghost use Rattle.layout.proofs.NeedLaws.{mark_needed};
 ghost use Rattle.array.proofs.ListLaws.{list_absence, list_mark_alike, list_entry_alike, list_shown_alike, list_within};
 ghost use Rattle.list_view_array.specs.ViewLaws.{view_inside, view_range_cut, view_words_cut, view_needed, few_bytes, ranged};
 ghost use Rattle.slots.proofs.Leaves.{slots_mark};
@@ -46,11 +46,8 @@ pub fn view_in(size: u64, start: i64, count: i64) -> Option<(u64, u64)>
     ensures { result ≡ view_of size start count }
 {
     let from = start.cast_unsigned();
-    let end = from as u128 + count.cast_unsigned() as u128;
-    if end > size as u128 {
-        return None;
-    }
-    Some((from, end as u64))
+    let end = from.checked_add(count.cast_unsigned())?;
+    (end <= size).then_some((from, end))
 }
 
 // The range of start and size number k in a child of so many entries.
@@ -156,14 +153,12 @@ impl<O: OffsetSizeTrait, C: Array + Copy> Array for GenericListViewArray<O, C> {
 
     fn fits(&self, body: &[u8]) -> bool {
         let len = self.len();
-        if len == 0 {
-            return true;
-        }
         let end = self.slots.first + len;
-        if !words_fit::<O>(body, self.starts, end) || !words_fit::<O>(body, self.sizes, end) {
-            return false;
-        }
-        marks_fit(self.slots.marks, body, len) && self.child.fits(body)
+        len == 0
+            || words_fit::<O>(body, self.starts, end)
+                && words_fit::<O>(body, self.sizes, end)
+                && marks_fit(self.slots.marks, body, len)
+                && self.child.fits(body)
     }
 }
 

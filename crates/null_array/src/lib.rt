@@ -1,12 +1,12 @@
 #![tactic(auto)]
 
-ghost use Rattle.std.specs.Prelude.{◌≡◌, ℕ, ◌+◌, ◌≤◌, true, [], MatchResult};
+ghost use Rattle.std.specs.Prelude.{◌≡◌, true, [], MatchResult};
 ghost use Rattle.history.specs.Entry.Entry.{absent};
 ghost use Rattle.history.specs.Calls.{TrialLeads, StopLeads};
 ghost use Rattle.form.specs.Forms.{leaf_form};
 ghost use Rattle.ledger.specs.Ledger.{accounts_of};
 ghost use Rattle.null_array.specs.Nulls.{null_slots, null_cut, null_reply, null_seen};
-ghost use Rattle.std.proofs.Common.{rules, arith};
+ghost use Rattle.std.proofs.Common.{rules};
 
 use array::array::Array;
 use form::data_type::DataType;
