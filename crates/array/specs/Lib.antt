@@ -1,3 +1,4 @@
 pub mod Windows
 pub mod Lists
 pub mod Offsets
+pub mod ItemLaws

@@ -47,7 +47,10 @@ pub trait Array: Sized {
 
     // Whether mark i is present.
     fn is_valid(&self, body: &[u8], i: u64) -> Result<bool, Stop>
-        ensures { result ≡ ask_reply (size self.now) (mark_need self.now) (mark self.now body.now) body.now i };
+        ensures { result ≡ ask_reply (size self.now) (mark_need self.now) (mark self.now body.now) body.now i }
+    {
+        self.is_null(body, i).map(|null| !null)
+    }
 
     // How many marks are null.
     fn null_count(&self, body: &[u8]) -> Result<u64, Stop>

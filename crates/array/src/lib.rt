@@ -2,4 +2,5 @@
 
 pub mod array;
 pub mod cuts;
+pub mod list_accessor;
 pub mod offset_size;

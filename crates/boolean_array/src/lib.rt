@@ -1,10 +1,9 @@
 #![tactic(auto)]
 
-ghost use Rattle.std.specs.Prelude.{◌≡◌, ℕ, ◌+◌, ◌≤◌, [], Some, MatchResult, refl};
+ghost use Rattle.std.specs.Prelude.{◌≡◌, [], Some, MatchResult, refl};
 ghost use Rattle.layout.specs.Bits.{bit_set};
 ghost use Rattle.history.specs.Calls.{TrialLeads, StopLeads};
 ghost use Rattle.form.specs.Forms.{leaf_form};
-ghost use Rattle.ledger.specs.Ledger.{accounts_of};
 ghost use Rattle.slots.specs.Slots.{slot_mark, slot_need};
 ghost use Rattle.boolean_array.specs.Booleans.{bool_bit, bool_number, bool_source, bool_entry, bool_need, bool_spans, bool_cut, bool_seen, bool_reply};
 ghost use Rattle.layout.proofs.NeedLaws.{mark_needed, bit_needed, needed_into};
@@ -14,7 +13,7 @@ ghost use Rattle.boolean_array.specs.BooleanArrayAccessorLemmas.{apart};
 
 use array::array::{Array, ArrayAccessor};
 use boolean_array::BooleanArray;
-use form::data_type::DataType;
+use form::data_type::{DataType, Leaf};
 use layout::bits::{bit, marks_fit};
 use ledger::ledger::Ledger;
 use ledger::stop::{Reason, Stop};
@@ -32,8 +31,8 @@ impl BooleanArray {
         len: u64,
         nulls: Option<NullBuffer>,
     ) -> Result<BooleanArray, Stop>
-        ensures answers { result ≡ bool_reply (accounts_of ledger.now) body.now place len nulls }
-        ensures leads { MatchResult result (λ h. TrialLeads body.now (accounts_of ledger.now).loaded [] (bool_seen h)) (λ _. StopLeads) }
+        ensures answers { result ≡ bool_reply ledger.now body.now place len nulls }
+        ensures leads { MatchResult result (λ h. TrialLeads body.now ledger.now.loaded [] (bool_seen h)) (λ _. StopLeads) }
     {
         tried(ledger, body, place, len, nulls)
     }
@@ -53,7 +52,7 @@ fn tried(
     len: u64,
     nulls: Option<NullBuffer>,
 ) -> Result<BooleanArray, Stop>
-    ensures { result ≡ bool_reply (accounts_of ledger.now) body.now place len nulls }
+    ensures { result ≡ bool_reply ledger.now body.now place len nulls }
 {
     let own = bytes_end(place, bit_bytes(len));
     let slots = try_slots(ledger, body, own, len, nulls)?;
@@ -116,15 +115,11 @@ impl Array for BooleanArray {
     }
 
     fn data_type(&self) -> DataType {
-        DataType::leaf(2)
+        Leaf::Boolean.into()
     }
 
     fn is_null(&self, body: &[u8], i: u64) -> Result<bool, Stop> {
         self.slots.is_null(body, i)
-    }
-
-    fn is_valid(&self, body: &[u8], i: u64) -> Result<bool, Stop> {
-        self.slots.is_valid(body, i)
     }
 
     fn null_count(&self, body: &[u8]) -> Result<u64, Stop> {
@@ -171,9 +166,6 @@ impl ArrayAccessor for BooleanArray {
         if i >= self.slots.len {
             return Err(Stop::new(Reason::IndexPastEnd));
         }
-        match bit(body, self.bit_number(i)) {
-            Some(v) => Ok(v),
-            None => Err(Stop::new(Reason::BeyondBytes)),
-        }
+        bit(body, self.bit_number(i)).ok_or(Stop::new(Reason::BeyondBytes))
     }
 }

@@ -3,7 +3,7 @@
 ghost use Rattle.std.specs.Prelude.{◌≡◌, ℕ};
 ghost use Rattle.form.specs.Forms.{layer_reply};
 ghost use Rattle.history.specs.Entry.{is_absent};
-ghost use Rattle.ledger.specs.Ledger.{accounts_of};
+ghost use Rattle.ledger.specs.Ledger.{Kept};
 ghost use Rattle.slots.specs.Replies.{count_reply};
 ghost use Rattle.checks.specs.Checks.{child_reply, own_reply, absent_reply, same_form, field_reply};
 
@@ -23,7 +23,8 @@ pub fn check_own<C: Array>(
     nulls: Option<NullBuffer>,
     child: &C,
 ) -> Result<(), Stop>
-    ensures { result ≡ own_reply (accounts_of ledger.now) body.now own nulls (C.Array.spans child.now) }
+    ensures answers { result ≡ own_reply ledger.now body.now own nulls (C.Array.spans child.now) }
+    ensures keeps { Kept ledger.now }
 {
     check_bytes(ledger, body, own, nulls)?;
     if !child.fits(body) {

@@ -3,7 +3,7 @@
 ghost use Rattle.std.specs.Prelude.{◌≡◌, ℕ, ◌+◌, ◌*◌, ◌<◌, ◌≤◌, true, [], length, is_ok, if◌then◌else◌, Ok, MatchResult};
 ghost use Rattle.history.specs.Entry.{is_absent};
 ghost use Rattle.layout.specs.Spans.{in_body};
-ghost use Rattle.ledger.specs.Ledger.{accounts_of, aligned, second, reservation2, reserved2};
+ghost use Rattle.ledger.specs.Ledger.{aligned, second, reservation2, reserved2};
 ghost use Rattle.slots.specs.Replies.{find_reply, count_reply};
 ghost use Rattle.slots.specs.Trials.{and_then};
 ghost use Rattle.checks.specs.Checks.{taken};
@@ -129,7 +129,7 @@ fn check_turn<O: OffsetSizeTrait, C: Array + Copy>(
     body: &[u8],
     a: &GenericListArray<O, C>,
 ) -> Result<(), Stop>
-    ensures { result ≡ turn_tests (accounts_of ledger.now) body.now (in_body (offset_spans O.WIDTH a.now.place a.now.slots) body.now) a.now.field.nullable (count_reply (C.Array.size a.now.child) (C.Array.absent_need a.now.child) (λ j. is_absent (C.Array.entry a.now.child body.now j)) body.now) (all_ok (λ i. find_reply a.now.slots.len (list_need O.WIDTH a.now.place a.now.slots) (list_range O.WIDTH a.now.place a.now.slots (C.Array.size a.now.child) body.now) body.now i) a.now.slots.len) }
+    ensures { result ≡ turn_tests ledger.now body.now (in_body (offset_spans O.WIDTH a.now.place a.now.slots) body.now) a.now.field.nullable (count_reply (C.Array.size a.now.child) (C.Array.absent_need a.now.child) (λ j. is_absent (C.Array.entry a.now.child body.now j)) body.now) (all_ok (λ i. find_reply a.now.slots.len (list_need O.WIDTH a.now.place a.now.slots) (list_range O.WIDTH a.now.place a.now.slots (C.Array.size a.now.child) body.now) body.now i) a.now.slots.len) }
 {
     if body.len() as u64 != ledger.length() {
         return Err(Stop::new(Reason::BodyLengthDiffers));
@@ -150,9 +150,9 @@ fn turned<O: OffsetSizeTrait, C: Array + Copy>(
     body: &mut [u8],
     a: &GenericListArray<O, C>,
 ) -> Result<(u64, u64), Stop>
-    ensures answers { result ≡ (and_then (turn_tests (accounts_of ledger.old) body.old (in_body (offset_spans O.WIDTH a.now.place a.now.slots) body.old) a.now.field.nullable (count_reply (C.Array.size a.now.child) (C.Array.absent_need a.now.child) (λ j. is_absent (C.Array.entry a.now.child body.old j)) body.old) (all_ok (λ i. find_reply a.now.slots.len (list_need O.WIDTH a.now.place a.now.slots) (list_range O.WIDTH a.now.place a.now.slots (C.Array.size a.now.child) body.old) body.old i) a.now.slots.len)) (reservation2 (accounts_of ledger.old) (O.WIDTH * a.now.slots.len) (O.WIDTH * a.now.slots.len))) }
-    ensures account { accounts_of ledger.new ≡ (if is_ok result then reserved2 (accounts_of ledger.old) (O.WIDTH * a.now.slots.len) (O.WIDTH * a.now.slots.len) else accounts_of ledger.old) }
-    ensures leaves { body.new ≡ (if is_ok result then views_put O.WIDTH (λ b i. find_reply a.now.slots.len (list_need O.WIDTH a.now.place a.now.slots) (list_range O.WIDTH a.now.place a.now.slots (C.Array.size a.now.child) b) b i) (aligned (accounts_of ledger.old).end) (second (accounts_of ledger.old) (O.WIDTH * a.now.slots.len)) body.old a.now.slots.len else body.old) }
+    ensures answers { result ≡ (and_then (turn_tests ledger.old body.old (in_body (offset_spans O.WIDTH a.now.place a.now.slots) body.old) a.now.field.nullable (count_reply (C.Array.size a.now.child) (C.Array.absent_need a.now.child) (λ j. is_absent (C.Array.entry a.now.child body.old j)) body.old) (all_ok (λ i. find_reply a.now.slots.len (list_need O.WIDTH a.now.place a.now.slots) (list_range O.WIDTH a.now.place a.now.slots (C.Array.size a.now.child) body.old) body.old i) a.now.slots.len)) (reservation2 ledger.old (O.WIDTH * a.now.slots.len) (O.WIDTH * a.now.slots.len))) }
+    ensures account { ledger.new ≡ (if is_ok result then reserved2 ledger.old (O.WIDTH * a.now.slots.len) (O.WIDTH * a.now.slots.len) else ledger.old) }
+    ensures leaves { body.new ≡ (if is_ok result then views_put O.WIDTH (λ b i. find_reply a.now.slots.len (list_need O.WIDTH a.now.place a.now.slots) (list_range O.WIDTH a.now.place a.now.slots (C.Array.size a.now.child) b) b i) (aligned ledger.old.end) (second ledger.old (O.WIDTH * a.now.slots.len)) body.old a.now.slots.len else body.old) }
 {
     check_turn(ledger, body, a)?;
     let bytes = O::width() as u128 * a.slots.len as u128;
@@ -179,10 +179,10 @@ pub fn list_to_view<O: OffsetSizeTrait, C: Array + Copy>(
     body: &mut [u8],
     a: &GenericListArray<O, C>,
 ) -> Result<GenericListViewArray<O, C>, Stop>
-    ensures answers { result ≡ made (λ p. record { starts = p.0; sizes = p.1; slots = fresh_slots a.now.slots; field = a.now.field; child = a.now.child; kind = record {} }) (and_then (turn_tests (accounts_of ledger.old) body.old (in_body (offset_spans O.WIDTH a.now.place a.now.slots) body.old) a.now.field.nullable (count_reply (C.Array.size a.now.child) (C.Array.absent_need a.now.child) (λ j. is_absent (C.Array.entry a.now.child body.old j)) body.old) (all_ok (λ i. find_reply a.now.slots.len (list_need O.WIDTH a.now.place a.now.slots) (list_range O.WIDTH a.now.place a.now.slots (C.Array.size a.now.child) body.old) body.old i) a.now.slots.len)) (reservation2 (accounts_of ledger.old) (O.WIDTH * a.now.slots.len) (O.WIDTH * a.now.slots.len))) }
-    ensures account { accounts_of ledger.new ≡ (if is_ok result then reserved2 (accounts_of ledger.old) (O.WIDTH * a.now.slots.len) (O.WIDTH * a.now.slots.len) else accounts_of ledger.old) }
-    ensures leaves { body.new ≡ (if is_ok result then views_put O.WIDTH (λ b i. find_reply a.now.slots.len (list_need O.WIDTH a.now.place a.now.slots) (list_range O.WIDTH a.now.place a.now.slots (C.Array.size a.now.child) b) b i) (aligned (accounts_of ledger.old).end) (second (accounts_of ledger.old) (O.WIDTH * a.now.slots.len)) body.old a.now.slots.len else body.old) }
-    ensures leads { MatchResult result (λ h. (((k : ℕ) → Within (list_seen a.now.slots (C.Array.entry a.now.child) (list_range O.WIDTH a.now.place a.now.slots (C.Array.size a.now.child)) (list_words O.WIDTH a.now.place a.now.slots) (C.Array.spans a.now.child)).rests k → k < 8 * (accounts_of ledger.old).end) → TurnLeads (list_seen a.now.slots (C.Array.entry a.now.child) (list_range O.WIDTH a.now.place a.now.slots (C.Array.size a.now.child)) (list_words O.WIDTH a.now.place a.now.slots) (C.Array.spans a.now.child)) (accounts_of ledger.old).end body.old (list_seen h.slots (C.Array.entry h.child) (view_range O.WIDTH h.starts h.sizes h.slots (C.Array.size h.child)) (view_words O.WIDTH h.starts h.sizes h.slots) (C.Array.spans h.child)) (accounts_of ledger.new).end body.new)) (λ _. StopLeads) }
+    ensures answers { result ≡ made (λ p. record { starts = p.0; sizes = p.1; slots = fresh_slots a.now.slots; field = a.now.field; child = a.now.child; kind = record {} }) (and_then (turn_tests ledger.old body.old (in_body (offset_spans O.WIDTH a.now.place a.now.slots) body.old) a.now.field.nullable (count_reply (C.Array.size a.now.child) (C.Array.absent_need a.now.child) (λ j. is_absent (C.Array.entry a.now.child body.old j)) body.old) (all_ok (λ i. find_reply a.now.slots.len (list_need O.WIDTH a.now.place a.now.slots) (list_range O.WIDTH a.now.place a.now.slots (C.Array.size a.now.child) body.old) body.old i) a.now.slots.len)) (reservation2 ledger.old (O.WIDTH * a.now.slots.len) (O.WIDTH * a.now.slots.len))) }
+    ensures account { ledger.new ≡ (if is_ok result then reserved2 ledger.old (O.WIDTH * a.now.slots.len) (O.WIDTH * a.now.slots.len) else ledger.old) }
+    ensures leaves { body.new ≡ (if is_ok result then views_put O.WIDTH (λ b i. find_reply a.now.slots.len (list_need O.WIDTH a.now.place a.now.slots) (list_range O.WIDTH a.now.place a.now.slots (C.Array.size a.now.child) b) b i) (aligned ledger.old.end) (second ledger.old (O.WIDTH * a.now.slots.len)) body.old a.now.slots.len else body.old) }
+    ensures leads { MatchResult result (λ h. (((k : ℕ) → Within (list_seen a.now.slots (C.Array.entry a.now.child) (list_range O.WIDTH a.now.place a.now.slots (C.Array.size a.now.child)) (list_words O.WIDTH a.now.place a.now.slots) (C.Array.spans a.now.child)).rests k → k < 8 * ledger.old.end) → TurnLeads (list_seen a.now.slots (C.Array.entry a.now.child) (list_range O.WIDTH a.now.place a.now.slots (C.Array.size a.now.child)) (list_words O.WIDTH a.now.place a.now.slots) (C.Array.spans a.now.child)) ledger.old.end body.old (list_seen h.slots (C.Array.entry h.child) (view_range O.WIDTH h.starts h.sizes h.slots (C.Array.size h.child)) (view_words O.WIDTH h.starts h.sizes h.slots) (C.Array.spans h.child)) ledger.new.end body.new)) (λ _. StopLeads) }
 {
     let (starts, sizes) = turned(ledger, body, a)?;
     Ok(GenericListViewArray {
@@ -212,7 +212,7 @@ fn check_fixed<O: OffsetSizeTrait, C: Array + Copy>(
     body: &[u8],
     a: &FixedSizeListArray<C>,
 ) -> Result<(), Stop>
-    ensures { result ≡ (fixed_tests (accounts_of ledger.now) body.now (all_ok (λ i. find_reply a.now.slots.len (λ j. []) (fixed_range a.now.size (C.Array.size a.now.child)) body.now i) a.now.slots.len) (starts_small O.WIDTH a.now.size a.now.slots.len)) }
+    ensures { result ≡ (fixed_tests ledger.now body.now (all_ok (λ i. find_reply a.now.slots.len (λ j. []) (fixed_range a.now.size (C.Array.size a.now.child)) body.now i) a.now.slots.len) (starts_small O.WIDTH a.now.size a.now.slots.len)) }
 {
     if body.len() as u64 != ledger.length() {
         return Err(Stop::new(Reason::BodyLengthDiffers));
@@ -231,9 +231,9 @@ fn fixed_turned<O: OffsetSizeTrait, C: Array + Copy>(
     body: &mut [u8],
     a: &FixedSizeListArray<C>,
 ) -> Result<(u64, u64), Stop>
-    ensures answers { result ≡ (and_then (fixed_tests (accounts_of ledger.old) body.old (all_ok (λ i. find_reply a.now.slots.len (λ j. []) (fixed_range a.now.size (C.Array.size a.now.child)) body.old i) a.now.slots.len) (starts_small O.WIDTH a.now.size a.now.slots.len)) (reservation2 (accounts_of ledger.old) (O.WIDTH * a.now.slots.len) (O.WIDTH * a.now.slots.len))) }
-    ensures account { accounts_of ledger.new ≡ (if is_ok result then reserved2 (accounts_of ledger.old) (O.WIDTH * a.now.slots.len) (O.WIDTH * a.now.slots.len) else accounts_of ledger.old) }
-    ensures leaves { body.new ≡ (if is_ok result then views_put O.WIDTH (λ b i. find_reply a.now.slots.len (λ j. []) (fixed_range a.now.size (C.Array.size a.now.child)) b i) (aligned (accounts_of ledger.old).end) (second (accounts_of ledger.old) (O.WIDTH * a.now.slots.len)) body.old a.now.slots.len else body.old) }
+    ensures answers { result ≡ (and_then (fixed_tests ledger.old body.old (all_ok (λ i. find_reply a.now.slots.len (λ j. []) (fixed_range a.now.size (C.Array.size a.now.child)) body.old i) a.now.slots.len) (starts_small O.WIDTH a.now.size a.now.slots.len)) (reservation2 ledger.old (O.WIDTH * a.now.slots.len) (O.WIDTH * a.now.slots.len))) }
+    ensures account { ledger.new ≡ (if is_ok result then reserved2 ledger.old (O.WIDTH * a.now.slots.len) (O.WIDTH * a.now.slots.len) else ledger.old) }
+    ensures leaves { body.new ≡ (if is_ok result then views_put O.WIDTH (λ b i. find_reply a.now.slots.len (λ j. []) (fixed_range a.now.size (C.Array.size a.now.child)) b i) (aligned ledger.old.end) (second ledger.old (O.WIDTH * a.now.slots.len)) body.old a.now.slots.len else body.old) }
 {
     check_fixed::<O, C>(ledger, body, a)?;
     let bytes = O::width() as u128 * a.slots.len as u128;
@@ -248,10 +248,10 @@ pub fn fixed_to_view<O: OffsetSizeTrait, C: Array + Copy>(
     body: &mut [u8],
     a: &FixedSizeListArray<C>,
 ) -> Result<GenericListViewArray<O, C>, Stop>
-    ensures answers { result ≡ made (λ p. record { starts = p.0; sizes = p.1; slots = fresh_slots a.now.slots; field = a.now.field; child = a.now.child; kind = record {} }) (and_then (fixed_tests (accounts_of ledger.old) body.old (all_ok (λ i. find_reply a.now.slots.len (λ j. []) (fixed_range a.now.size (C.Array.size a.now.child)) body.old i) a.now.slots.len) (starts_small O.WIDTH a.now.size a.now.slots.len)) (reservation2 (accounts_of ledger.old) (O.WIDTH * a.now.slots.len) (O.WIDTH * a.now.slots.len))) }
-    ensures account { accounts_of ledger.new ≡ (if is_ok result then reserved2 (accounts_of ledger.old) (O.WIDTH * a.now.slots.len) (O.WIDTH * a.now.slots.len) else accounts_of ledger.old) }
-    ensures leaves { body.new ≡ (if is_ok result then views_put O.WIDTH (λ b i. find_reply a.now.slots.len (λ j. []) (fixed_range a.now.size (C.Array.size a.now.child)) b i) (aligned (accounts_of ledger.old).end) (second (accounts_of ledger.old) (O.WIDTH * a.now.slots.len)) body.old a.now.slots.len else body.old) }
-    ensures leads { MatchResult result (λ h. (((k : ℕ) → Within (list_seen a.now.slots (C.Array.entry a.now.child) (λ b. (fixed_range a.now.size (C.Array.size a.now.child))) [] (C.Array.spans a.now.child)).rests k → k < 8 * (accounts_of ledger.old).end) → TurnLeads (list_seen a.now.slots (C.Array.entry a.now.child) (λ b. (fixed_range a.now.size (C.Array.size a.now.child))) [] (C.Array.spans a.now.child)) (accounts_of ledger.old).end body.old (list_seen h.slots (C.Array.entry h.child) (view_range O.WIDTH h.starts h.sizes h.slots (C.Array.size h.child)) (view_words O.WIDTH h.starts h.sizes h.slots) (C.Array.spans h.child)) (accounts_of ledger.new).end body.new)) (λ _. StopLeads) }
+    ensures answers { result ≡ made (λ p. record { starts = p.0; sizes = p.1; slots = fresh_slots a.now.slots; field = a.now.field; child = a.now.child; kind = record {} }) (and_then (fixed_tests ledger.old body.old (all_ok (λ i. find_reply a.now.slots.len (λ j. []) (fixed_range a.now.size (C.Array.size a.now.child)) body.old i) a.now.slots.len) (starts_small O.WIDTH a.now.size a.now.slots.len)) (reservation2 ledger.old (O.WIDTH * a.now.slots.len) (O.WIDTH * a.now.slots.len))) }
+    ensures account { ledger.new ≡ (if is_ok result then reserved2 ledger.old (O.WIDTH * a.now.slots.len) (O.WIDTH * a.now.slots.len) else ledger.old) }
+    ensures leaves { body.new ≡ (if is_ok result then views_put O.WIDTH (λ b i. find_reply a.now.slots.len (λ j. []) (fixed_range a.now.size (C.Array.size a.now.child)) b i) (aligned ledger.old.end) (second ledger.old (O.WIDTH * a.now.slots.len)) body.old a.now.slots.len else body.old) }
+    ensures leads { MatchResult result (λ h. (((k : ℕ) → Within (list_seen a.now.slots (C.Array.entry a.now.child) (λ b. (fixed_range a.now.size (C.Array.size a.now.child))) [] (C.Array.spans a.now.child)).rests k → k < 8 * ledger.old.end) → TurnLeads (list_seen a.now.slots (C.Array.entry a.now.child) (λ b. (fixed_range a.now.size (C.Array.size a.now.child))) [] (C.Array.spans a.now.child)) ledger.old.end body.old (list_seen h.slots (C.Array.entry h.child) (view_range O.WIDTH h.starts h.sizes h.slots (C.Array.size h.child)) (view_words O.WIDTH h.starts h.sizes h.slots) (C.Array.spans h.child)) ledger.new.end body.new)) (λ _. StopLeads) }
 {
     let (starts, sizes) = fixed_turned::<O, C>(ledger, body, a)?;
     Ok(GenericListViewArray {

@@ -1,12 +1,14 @@
-use Rattle.std.specs.Prelude.{◌≡◌, ℕ, ◌+◌, ◌-◌, ◌*◌, ◌<◌, ◌≤◌, Bool, true, false, cond, Some, None, nat_le, refl}
+use Rattle.std.specs.Prelude.{◌≡◌, ℕ, ◌+◌, ◌-◌, ◌*◌, ◌<◌, ◌≤◌, Bool, true, false, cond, [], Some, None, nat_le, refl}
 use Rattle.std.proofs.Common.{ap, ◌∙◌, add-mul, mul-zero, arith, leb-true, leb-false}
 use Rattle.std.proofs.Math.Decide.{dec_le}
 use Rattle.std.proofs.lemmas.Nat.{mul-le}
 use Rattle.history.specs.Entry.{Entry}
 use Rattle.history.specs.Entry.Entry.{window}
 use Rattle.array.specs.Windows.{Inside, window_in}
-use Rattle.array.proofs.ListLaws.{entries_shift}
-use Rattle.fixed_size_list_array.specs.Fixed.{fixed_range, child_start, child_count}
+use Rattle.array.specs.ItemLaws.{entries_shift}
+use Rattle.array.proofs.ListLaws.{Ranged}
+use Rattle.fixed_size_list_array.specs.declared.fixed_size_list_array.FixedSizeListArray.{FixedSizeListArray}
+use Rattle.fixed_size_list_array.specs.Fixed.{fixed_range, ranges_of, child_start, child_count}
 
 pub fixed_inside : (size entries i : ℕ) → Inside entries (fixed_range size entries i)
 fixed_inside size entries i = by (nat_le ((i + 1) * size) entries) refl
@@ -14,6 +16,10 @@ fixed_inside size entries i = by (nat_le ((i + 1) * size) entries) refl
     by : (t : Bool) → nat_le ((i + 1) * size) entries ≡ t → Inside entries (cond t (Some (i * size, (i + 1) * size)) None)
     by true p = (let e = add-mul i 1 size in omega arith, leb-true _ _ p)
     by false p = tt
+
+pub ranged : {C : Type 0} (entries : C → ℕ) (a : FixedSizeListArray C) → Ranged a.slots (entries a.child) (ranges_of entries a) []
+ranged entries a =
+    record { inside = λ b i l. fixed_inside a.size (entries a.child) i; alike = λ b c h i l. refl }
 
 -- the child of a cut lies in the child
 pub child_fits : (size entries start n : ℕ) → child_start size entries start + child_count size entries start n ≤ entries

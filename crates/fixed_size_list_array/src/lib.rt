@@ -1,17 +1,17 @@
 #![tactic(auto)]
 
-ghost use Rattle.std.specs.Prelude.{◌≡◌, ℕ, ◌+◌, ◌-◌, ◌*◌, ◌≤◌, min, List, [], refl};
+ghost use Rattle.std.specs.Prelude.{◌≡◌, [], refl};
 ghost use Rattle.std.proofs.Common.{ap, rules};
 ghost use Rattle.form.specs.Forms.{fixed_form};
 ghost use Rattle.slots.specs.Slots.{slot_mark, slot_need, slots_cut};
-ghost use Rattle.array.specs.Lists.{list_shown, list_entry, list_spans, list_seen, slice_in, range_numbers, whole_window};
-ghost use Rattle.fixed_size_list_array.specs.Fixed.{fixed_range, child_start, child_count};
+ghost use Rattle.array.specs.Lists.{list_shown, list_entry, list_spans, list_seen};
+ghost use Rattle.fixed_size_list_array.specs.Fixed.{fixed_range, ranges_of, child_start, child_count};
 ghost use Rattle.layout.proofs.NeedLaws.{mark_needed, needed_none};
-ghost use Rattle.array.proofs.ListLaws.{list_absence, list_mark_alike, list_entry_alike, list_shown_alike, list_within, item_told_lem};
-ghost use Rattle.fixed_size_list_array.specs.FixedLaws.{cut_window, fixed_inside, child_fits};
+ghost use Rattle.array.proofs.ListLaws.{list_absence, list_mark_alike, list_entry_alike, list_shown_alike, list_within};
+ghost use Rattle.fixed_size_list_array.specs.FixedLaws.{cut_window, fixed_inside, child_fits, ranged};
 ghost use Rattle.slots.proofs.Leaves.{slots_mark};
 
-use array::array::{Array, ArrayAccessor, ListLikeArray};
+use array::array::{Array, ListLikeArray};
 use fixed_size_list_array::FixedSizeListArray;
 use form::data_type::{DataType, Field};
 use layout::bits::marks_fit;
@@ -34,12 +34,7 @@ pub fn fixed_range(size: u32, entries: u64, i: u64) -> Option<(u64, u64)>
 fn child_start(size: u32, entries: u64, start: u64) -> u64
     ensures { result ≡ child_start size entries start }
 {
-    let from = start as u128 * size as u128;
-    if from > entries as u128 {
-        entries
-    } else {
-        from as u64
-    }
+    (start as u128 * size as u128).min(entries as u128) as u64
 }
 
 // How many they are.
@@ -47,12 +42,7 @@ fn child_count(size: u32, entries: u64, start: u64, n: u64) -> u64
     ensures { result ≡ child_count size entries start n }
 {
     let left = entries - child_start(size, entries, start);
-    let count = n as u128 * size as u128;
-    if count > left as u128 {
-        left
-    } else {
-        count as u64
-    }
+    (n as u128 * size as u128).min(left as u128) as u64
 }
 
 impl<C: Array + Copy> Array for FixedSizeListArray<C> {
@@ -64,17 +54,17 @@ impl<C: Array + Copy> Array for FixedSizeListArray<C> {
 
     ghost mark_need = { λ a. slot_need a.slots };
 
-    ghost entry = { λ a. list_entry a.slots (C.Array.entry a.child) (λ b. fixed_range a.size (C.Array.size a.child)) };
+    ghost entry = { λ a. list_entry a.slots (C.Array.entry a.child) (ranges_of C.Array.size a) };
 
     ghost absent_need = { λ a. slot_need a.slots };
 
-    ghost shown = { λ a. list_shown (C.Array.entry a.child) (λ b. fixed_range a.size (C.Array.size a.child)) };
+    ghost shown = { λ a. list_shown (C.Array.entry a.child) (ranges_of C.Array.size a) };
 
     ghost spans = { λ a. list_spans a.slots [] (C.Array.spans a.child) };
 
     ghost cut = { λ a s n. record { slots = slots_cut a.slots s n; size = a.size; field = a.field; child = C.Array.cut a.child (child_start a.size (C.Array.size a.child) s) (child_count a.size (C.Array.size a.child) s n) } };
 
-    ghost seen = { λ a. list_seen a.slots (C.Array.entry a.child) (λ b. fixed_range a.size (C.Array.size a.child)) [] (C.Array.spans a.child) };
+    ghost seen = { λ a. list_seen a.slots (C.Array.entry a.child) (ranges_of C.Array.size a) [] (C.Array.spans a.child) };
 
     ghost sight = { Prim.search rules };
 
@@ -86,21 +76,13 @@ impl<C: Array + Copy> Array for FixedSizeListArray<C> {
 
     ghost mark_needs = { λ a i l. mark_needed a.slots.marks i };
 
-    ghost absent_needs = { λ a i l. list_absence a.slots i (C.Array.entry a.child) (λ b. fixed_range a.size (C.Array.size a.child)) };
+    ghost absent_needs = { λ a i l. list_absence a.slots i (C.Array.entry a.child) (ranges_of C.Array.size a) };
 
-    ghost mark_alike = { λ a.
-        let cs = C.Array.size a.child in
-        list_mark_alike a.slots cs (C.Array.entry a.child) (λ b. fixed_range a.size cs) [] (C.Array.spans a.child) };
+    ghost mark_alike = { λ a. list_mark_alike (ranged C.Array.size a) (C.Array.spans a.child) };
 
-    ghost entry_alike = { λ a.
-        let cs = C.Array.size a.child in
-        list_entry_alike a.slots cs (C.Array.entry a.child) (λ b. fixed_range a.size cs) [] (C.Array.spans a.child)
-        (λ b i l. fixed_inside a.size cs i) (λ b c h i l. refl) (C.Array.entry_alike a.child) };
+    ghost entry_alike = { λ a. list_entry_alike (ranged C.Array.size a) (C.Array.spans a.child) (C.Array.entry_alike a.child) };
 
-    ghost shown_alike = { λ a.
-        let cs = C.Array.size a.child in
-        list_shown_alike a.slots cs (C.Array.entry a.child) (λ b. fixed_range a.size cs) [] (C.Array.spans a.child)
-        (λ b i l. fixed_inside a.size cs i) (λ b c h i l. refl) (C.Array.entry_alike a.child) };
+    ghost shown_alike = { λ a. list_shown_alike (ranged C.Array.size a) (C.Array.spans a.child) (C.Array.entry_alike a.child) };
 
     ghost cut_size = { Prim.search rules };
 
@@ -150,10 +132,6 @@ impl<C: Array + Copy> Array for FixedSizeListArray<C> {
         self.slots.is_null(body, i)
     }
 
-    fn is_valid(&self, body: &[u8], i: u64) -> Result<bool, Stop> {
-        self.slots.is_valid(body, i)
-    }
-
     fn null_count(&self, body: &[u8]) -> Result<u64, Stop> {
         self.slots.null_count(body)
     }
@@ -188,7 +166,7 @@ impl<C: Array + Copy> ListLikeArray for FixedSizeListArray<C> {
 
     ghost child = { λ a. a.child };
 
-    ghost range = { λ a b. fixed_range a.size (C.Array.size a.child) };
+    ghost range = { ranges_of C.Array.size };
 
     ghost range_need = { λ a i. [] };
 
@@ -208,36 +186,7 @@ impl<C: Array + Copy> ListLikeArray for FixedSizeListArray<C> {
         if i >= self.slots.len {
             return Err(Stop::new(Reason::IndexPastEnd));
         }
-        match fixed_range(self.size, self.child.len(), i) {
-            Some(range) => Ok(range),
-            None => Err(Stop::new(Reason::NoRange)),
-        }
-    }
-}
-
-impl<C: Array + Copy> ArrayAccessor for FixedSizeListArray<C> {
-    type Item = C;
-
-    ghost item = { λ a b i. slice_in (C.Array.cut a.child) (fixed_range a.size (C.Array.size a.child) i) };
-
-    ghost source = { λ a b i. range_numbers (fixed_range a.size (C.Array.size a.child) i) };
-
-    ghost item_need = { λ a i. [] };
-
-    ghost told = { λ h b. whole_window (C.Array.size h) (C.Array.entry h b) };
-
-    ghost item_needs = { λ a i l. needed_none (range_numbers (fixed_range a.size (C.Array.size a.child) i)) };
-
-    ghost item_from = { λ a b c i l e. refl };
-
-    ghost item_told = { λ a b i x l e m.
-        let cs = C.Array.size a.child in
-        rw m (item_told_lem cs (C.Array.entry a.child b) (C.Array.cut a.child) C.Array.size (λ h. C.Array.entry h b) (fixed_range a.size cs i) (fixed_inside a.size cs i)
-        (λ s n k. C.Array.cut_size a.child s n k) (λ s n k j q. C.Array.cut_entry a.child s n k b j q) x e) };
-
-    fn value(&self, body: &[u8], i: u64) -> Result<C, Stop> {
-        let (from, to) = self.element_range(body, i)?;
-        self.child.slice(from, to - from)
+        fixed_range(self.size, self.child.len(), i).ok_or(Stop::new(Reason::NoRange))
     }
 }
 

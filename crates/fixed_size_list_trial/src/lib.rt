@@ -3,7 +3,6 @@
 ghost use Rattle.std.specs.Prelude.{◌≡◌, ℕ, ◌+◌, ◌*◌, ◌<◌, ◌≤◌, true, false, [], length, nat_abs, if◌then◌else◌, Ok, MatchResult};
 ghost use Rattle.history.specs.Calls.{TrialLeads, StopLeads};
 ghost use Rattle.layout.specs.Spans.{in_body};
-ghost use Rattle.ledger.specs.Ledger.{accounts_of};
 ghost use Rattle.slots.specs.Slots.{slot_mark, slot_spans};
 ghost use Rattle.slots.specs.Trials.{and_then, marks_bytes_end, new_slots};
 ghost use Rattle.array.specs.Lists.{list_seen};
@@ -29,8 +28,8 @@ pub fn try_new<C: Array + Copy>(
     nulls: Option<NullBuffer>,
     child: C,
 ) -> Result<FixedSizeListArray<C>, Stop>
-    ensures answers { result ≡ fixed_trial (accounts_of ledger.now) body.now field size nulls (C.Array.size child) (C.Array.spans child) (absent_under (slot_mark (new_slots (fixed_slots (nat_abs size) (C.Array.size child) nulls) nulls) body.now) (C.Array.entry child body.now) (nat_abs size) (fixed_slots (nat_abs size) (C.Array.size child) nulls)) (C.Array.form child) (record { slots = new_slots (fixed_slots (nat_abs size) (C.Array.size child) nulls) nulls; size = nat_abs size; field = field; child = child }) }
-    ensures leads { MatchResult result (λ h. TrialLeads body.now (accounts_of ledger.now).loaded (C.Array.spans child) (list_seen h.slots (C.Array.entry h.child) (λ b. fixed_range h.size (C.Array.size h.child)) [] (C.Array.spans h.child))) (λ _. StopLeads) }
+    ensures answers { result ≡ fixed_trial ledger.now body.now field size nulls (C.Array.size child) (C.Array.spans child) (absent_under (slot_mark (new_slots (fixed_slots (nat_abs size) (C.Array.size child) nulls) nulls) body.now) (C.Array.entry child body.now) (nat_abs size) (fixed_slots (nat_abs size) (C.Array.size child) nulls)) (C.Array.form child) (record { slots = new_slots (fixed_slots (nat_abs size) (C.Array.size child) nulls) nulls; size = nat_abs size; field = field; child = child }) }
+    ensures leads { MatchResult result (λ h. TrialLeads body.now ledger.now.loaded (C.Array.spans child) (list_seen h.slots (C.Array.entry h.child) (λ b. fixed_range h.size (C.Array.size h.child)) [] (C.Array.spans h.child))) (λ _. StopLeads) }
 {
     tried(ledger, body, field, size, nulls, child)
 }
@@ -43,7 +42,7 @@ fn tried<C: Array + Copy>(
     nulls: Option<NullBuffer>,
     child: C,
 ) -> Result<FixedSizeListArray<C>, Stop>
-    ensures { result ≡ fixed_trial (accounts_of ledger.now) body.now field size nulls (C.Array.size child) (C.Array.spans child) (absent_under (slot_mark (new_slots (fixed_slots (nat_abs size) (C.Array.size child) nulls) nulls) body.now) (C.Array.entry child body.now) (nat_abs size) (fixed_slots (nat_abs size) (C.Array.size child) nulls)) (C.Array.form child) (record { slots = new_slots (fixed_slots (nat_abs size) (C.Array.size child) nulls) nulls; size = nat_abs size; field = field; child = child }) }
+    ensures { result ≡ fixed_trial ledger.now body.now field size nulls (C.Array.size child) (C.Array.spans child) (absent_under (slot_mark (new_slots (fixed_slots (nat_abs size) (C.Array.size child) nulls) nulls) body.now) (C.Array.entry child body.now) (nat_abs size) (fixed_slots (nat_abs size) (C.Array.size child) nulls)) (C.Array.form child) (record { slots = new_slots (fixed_slots (nat_abs size) (C.Array.size child) nulls) nulls; size = nat_abs size; field = field; child = child }) }
 {
     check_own(ledger, body, 0, nulls, &child)?;
     if size < 0 {

@@ -1,4 +1,4 @@
-ghost use Rattle.std.specs.Prelude.{◌≡◌, ℕ, ◌+◌, ◌*◌, ◌^◌, ◌<◌, ◌≤◌, length};
+ghost use Rattle.std.specs.Prelude.{◌≡◌, ◌+◌, ◌*◌, ◌/◌, ◌^◌, ◌<◌, ◌≤◌, length};
 ghost use Rattle.layout.specs.Bits.{bit_set, bit_reply, zeros_from, zeros_reply};
 ghost use Rattle.layout.specs.Marks.{mark_reply, nulls_reply, mark_spans};
 ghost use Rattle.layout.specs.Laws.{ValidWhereBitSet, ZerosAreNulls};
@@ -10,12 +10,10 @@ use crate::marks::Marks;
 pub fn bit(body: &[u8], at: u128) -> Option<bool>
     ensures { result ≡ bit_reply body.now at }
 {
-    if at >= body.len() as u128 * 8 {
-        return None;
-    }
-    Some(bit_in(body, at))
+    (at < body.len() as u128 * 8).then(|| bit_in(body, at))
 }
 
+#[tactic(auto, using(std::proofs::lemmas::Nat::and_mask))]
 fn bit_in(body: &[u8], at: u128) -> bool
     requires { at < 8 * length body.now }
     ensures { result ≡ bit_set body.now at }
@@ -30,11 +28,8 @@ pub fn count_zeros(body: &[u8], at: u128, n: u64) -> Option<u64>
     if n == 0 {
         return Some(0);
     }
-    let bits = body.len() as u128 * 8;
-    if n as u128 > bits || at > bits - n as u128 {
-        return None;
-    }
-    Some(zeros_in(body, at, n))
+    let end = at.checked_add(n as u128)?;
+    (end <= body.len() as u128 * 8).then(|| zeros_in(body, at, n))
 }
 
 // The bits up to the next whole byte, then whole words of 64 bits, then the rest.
@@ -42,61 +37,43 @@ fn zeros_in(body: &[u8], at: u128, n: u64) -> u64
     requires { at + n ≤ 8 * length body.now }
     ensures { result ≡ zeros_from body.now at n }
 {
-    let ahead = ((at + 7) / 8 * 8 - at) as u64;
+    let ahead = (at.next_multiple_of(8) - at) as u64;
     if n <= ahead {
         return zeros_by_bit(body, at, n);
     }
     let rest = n - ahead;
     let words = rest / 64;
     let from = at + ahead as u128;
-    let a = zeros_by_bit(body, at, ahead);
-    let b = zeros_by_word(body, (from / 8) as usize, words);
-    let c = zeros_by_bit(body, from + 64 * words as u128, rest % 64);
-    a + b + c
+    let place = (from / 8) as usize;
+    let before = zeros_by_bit(body, at, ahead);
+    let within = zeros_by_word(&body[place..place + 8 * words as usize]);
+    let after = zeros_by_bit(body, from + 64 * words as u128, rest % 64);
+    before + within + after
 }
 
+// Bit by bit.
 fn zeros_by_bit(body: &[u8], at: u128, n: u64) -> u64
     requires { at + n ≤ 8 * length body.now }
     ensures counted { result ≡ zeros_from body.now at n }
     ensures few { result ≤ n }
 {
-    let mut count: u64 = 0;
-    for i in 0..n {
-        if !bit_in(body, at + i as u128) {
-            count += 1;
-        }
-    }
-    count
+    (at..at + n as u128).filter(|k| !bit_in(body, *k)).count() as u64
 }
 
-fn zeros_by_word(body: &[u8], place: usize, words: u64) -> u64
-    requires { (place + 8 * words ≤ length body.now) × (64 * words < 2 ^ 64) }
-    ensures counted { result ≡ zeros_from body.now (8 * place) (64 * words) }
-    ensures few { result ≤ 64 * words }
+// Of the whole words of 64 bits among the bytes.
+fn zeros_by_word(bytes: &[u8]) -> u64
+    requires { 8 * length bytes.now < 2 ^ 64 }
+    ensures counted { result ≡ zeros_from bytes.now 0 (64 * (length bytes.now / 8)) }
+    ensures few { result ≤ 8 * length bytes.now }
 {
-    let mut count: u64 = 0;
-    for k in 0..words {
-        count += zeros_of_word(body, place + 8 * k as usize);
-    }
-    count
+    let (words, _rest) = bytes.as_chunks::<8>();
+    words.iter().map(zeros_of_word).sum()
 }
 
-fn zeros_of_word(body: &[u8], p: usize) -> u64
-    requires { p + 8 ≤ length body.now }
-    ensures counted { result ≡ zeros_from body.now (8 * p) 64 }
-    ensures few { result ≤ 64 }
+fn zeros_of_word(bytes: &[u8; 8]) -> u64
+    ensures { result ≡ zeros_from bytes.now 0 64 }
 {
-    let word = u64::from_le_bytes([
-        body[p],
-        body[p + 1],
-        body[p + 2],
-        body[p + 3],
-        body[p + 4],
-        body[p + 5],
-        body[p + 6],
-        body[p + 7],
-    ]);
-    (64 - word.count_ones()) as u64
+    u64::from_le_bytes(*bytes).count_zeros() as u64
 }
 
 impl Marks {
@@ -109,6 +86,7 @@ impl Marks {
 }
 
 // Whether slot k is present, or nothing where its mark lies beyond the body.
+#[tactic(auto, using(crate::proofs::WordLaws::valid_where_set))]
 pub fn mark(marks: Option<Marks>, body: &[u8], k: u64) -> Option<bool>
     ensures answers { result ≡ mark_reply marks body.now k }
     ensures valid { ValidWhereBitSet }
@@ -120,6 +98,7 @@ pub fn mark(marks: Option<Marks>, body: &[u8], k: u64) -> Option<bool>
 }
 
 // How many of the first n slots have a null mark, or nothing where one of the marks lies beyond the body.
+#[tactic(auto, using(crate::proofs::NeedLaws::zeros_nulls))]
 pub fn count_nulls(marks: Option<Marks>, body: &[u8], n: u64) -> Option<u64>
     ensures answers { result ≡ nulls_reply marks body.now n }
     ensures plain { ZerosAreNulls }

@@ -16,7 +16,9 @@ use Rattle.slots.specs.Slots.{slots_cut}
 use Rattle.slots.specs.Replies.{found}
 use Rattle.slots.proofs.SameSlots.{cut_first, cut_len}
 use Rattle.array.specs.Windows.{Range, Inside}
-use Rattle.list_array.specs.Offsets.{offset_of, pair_reply, range_of, pair_found, list_range, list_need, list_words}
+use Rattle.array.proofs.ListLaws.{Ranged}
+use Rattle.list_array.specs.declared.list_array.GenericListArray.{GenericListArray}
+use Rattle.list_array.specs.Offsets.{offset_of, pair_reply, range_of, pair_found, list_range, list_need, list_words, ranges_of, words_of}
 
 -- a range lies in its child
 pub range_inside_lem : (size : ℕ) (x y : ℤ) → Inside size (range_of size x y)
@@ -103,3 +105,10 @@ module _ (w place : ℕ) (s : Slots) (size : ℕ) where
       by : (u : Bool) (x y : ℤ) → pair_found size (cond u (Some (x, y)) None) ≡ cond u (found (range_of size x y)) (Err (stopped BeyondBytes))
       by true x y = refl
       by false x y = refl
+
+pub ranged : {O C : Type 0} (w : ℕ) (size : C → ℕ) (a : GenericListArray O C) → Ranged a.slots (size a.child) (ranges_of w size a) (words_of w a)
+ranged w size a =
+    record {
+      inside = list_inside w a.place a.slots (size a.child);
+      alike = list_range_alike w a.place a.slots (size a.child);
+    }

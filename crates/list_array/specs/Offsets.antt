@@ -7,6 +7,7 @@ use Rattle.ledger.specs.declared.stop.Reason.TheVariants.{BeyondBytes}
 use Rattle.ledger.specs.Stops.{stopped}
 use Rattle.slots.specs.Replies.{found}
 use Rattle.array.specs.Windows.{Range}
+use Rattle.list_array.specs.declared.list_array.GenericListArray.{GenericListArray}
 
 -- offset number k of w bytes after a place
 abbrev pub offset_of : ℕ → ℕ → List ℕ → ℕ → ℤ
@@ -40,3 +41,10 @@ list_need w place s i = word_span w (place + w * (s.first + i)) ∷ word_span w 
 -- the bits of all offsets: one more than there are slots
 abbrev pub list_words : ℕ → ℕ → Slots → List Span
 list_words w place s = span (8 * (place + w * s.first)) (8 * (place + w * (s.first + s.len + 1))) ∷ []
+
+-- the ranges of a list's slots, where `size` counts a child's entries, and the bits of its offsets
+abbrev pub ranges_of : {O C : Type 0} → ℕ → (C → ℕ) → GenericListArray O C → List ℕ → ℕ → Option Range
+ranges_of w size a = list_range w a.place a.slots (size a.child)
+
+abbrev pub words_of : {O C : Type 0} → ℕ → GenericListArray O C → List Span
+words_of w a = list_words w a.place a.slots

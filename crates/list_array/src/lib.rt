@@ -1,18 +1,18 @@
 #![tactic(auto)]
 
-ghost use Rattle.std.specs.Prelude.{◌≡◌, ℕ, ◌+◌, ◌*◌, ◌/◌, ◌<◌, ◌≤◌, List, length, refl};
+ghost use Rattle.std.specs.Prelude.{◌≡◌, ◌+◌, ◌/◌, refl};
 ghost use Rattle.std.proofs.Common.{ap, rules};
 ghost use Rattle.form.specs.Forms.{layer_form};
 ghost use Rattle.slots.specs.Slots.{slot_mark, slot_need, slots_cut};
-ghost use Rattle.array.specs.Lists.{list_shown, list_entry, list_spans, list_seen, slice_in, range_numbers, whole_window};
-ghost use Rattle.list_array.specs.Offsets.{offset_of, pair_reply, pair_found, range_of, list_range, list_need, list_words};
-ghost use Rattle.layout.proofs.NeedLaws.{mark_needed, needed_into};
-ghost use Rattle.array.proofs.ListLaws.{list_absence, list_mark_alike, list_entry_alike, list_shown_alike, list_within, range_apart, item_told_lem};
-ghost use Rattle.list_array.specs.OffsetLaws.{list_inside, list_range_alike, list_range_cut, list_words_cut, list_needed};
+ghost use Rattle.array.specs.Lists.{list_shown, list_entry, list_spans, list_seen};
+ghost use Rattle.list_array.specs.Offsets.{pair_reply, pair_found, range_of, list_need, list_words, ranges_of, words_of};
+ghost use Rattle.layout.proofs.NeedLaws.{mark_needed};
+ghost use Rattle.array.proofs.ListLaws.{list_absence, list_mark_alike, list_entry_alike, list_shown_alike, list_within};
+ghost use Rattle.list_array.specs.OffsetLaws.{list_inside, list_range_cut, list_words_cut, list_needed, ranged};
 ghost use Rattle.slots.proofs.Leaves.{slots_mark};
 ghost use Rattle.array.specs.Windows.{window_in};
 
-use array::array::{Array, ArrayAccessor, ListLikeArray};
+use array::array::{Array, ListLikeArray};
 use array::offset_size::OffsetSizeTrait;
 use form::data_type::{DataType, Field};
 use layout::bits::marks_fit;
@@ -35,10 +35,9 @@ pub fn offset_pair<O: OffsetSizeTrait>(body: &[u8], place: u64, k: u64) -> Optio
 pub fn range_in(size: u64, lo: i64, hi: i64) -> Option<(u64, u64)>
     ensures { result ≡ range_of size lo hi }
 {
-    if lo < 0 || hi < lo || hi as u64 > size {
-        return None;
-    }
-    Some((lo as u64, hi as u64))
+    let from = u64::try_from(lo).ok()?;
+    let end = u64::try_from(hi).ok()?;
+    (from <= end && end <= size).then_some((from, end))
 }
 
 // The range of two offsets in a child of so many entries.
@@ -50,13 +49,8 @@ fn range_at<O: OffsetSizeTrait>(
 ) -> Result<(u64, u64), Stop>
     ensures { result ≡ pair_found size (pair_reply O.WIDTH place body.now k) }
 {
-    let Some((lo, hi)) = offset_pair::<O>(body, place, k) else {
-        return Err(Stop::new(Reason::BeyondBytes));
-    };
-    match range_in(size, lo, hi) {
-        Some(range) => Ok(range),
-        None => Err(Stop::new(Reason::NoRange)),
-    }
+    let (lo, hi) = offset_pair::<O>(body, place, k).ok_or(Stop::new(Reason::BeyondBytes))?;
+    range_in(size, lo, hi).ok_or(Stop::new(Reason::NoRange))
 }
 
 impl<O: OffsetSizeTrait, C: Array + Copy> Array for GenericListArray<O, C> {
@@ -68,17 +62,17 @@ impl<O: OffsetSizeTrait, C: Array + Copy> Array for GenericListArray<O, C> {
 
     ghost mark_need = { λ a. slot_need a.slots };
 
-    ghost entry = { λ a. list_entry a.slots (C.Array.entry a.child) (list_range O.WIDTH a.place a.slots (C.Array.size a.child)) };
+    ghost entry = { λ a. list_entry a.slots (C.Array.entry a.child) (ranges_of O.WIDTH C.Array.size a) };
 
     ghost absent_need = { λ a. slot_need a.slots };
 
-    ghost shown = { λ a. list_shown (C.Array.entry a.child) (list_range O.WIDTH a.place a.slots (C.Array.size a.child)) };
+    ghost shown = { λ a. list_shown (C.Array.entry a.child) (ranges_of O.WIDTH C.Array.size a) };
 
-    ghost spans = { λ a. list_spans a.slots (list_words O.WIDTH a.place a.slots) (C.Array.spans a.child) };
+    ghost spans = { λ a. list_spans a.slots (words_of O.WIDTH a) (C.Array.spans a.child) };
 
     ghost cut = { λ a s n. record { place = a.place; slots = slots_cut a.slots s n; field = a.field; child = a.child; kind = a.kind } };
 
-    ghost seen = { λ a. list_seen a.slots (C.Array.entry a.child) (list_range O.WIDTH a.place a.slots (C.Array.size a.child)) (list_words O.WIDTH a.place a.slots) (C.Array.spans a.child) };
+    ghost seen = { λ a. list_seen a.slots (C.Array.entry a.child) (ranges_of O.WIDTH C.Array.size a) (words_of O.WIDTH a) (C.Array.spans a.child) };
 
     ghost sight = { Prim.search rules };
 
@@ -90,24 +84,13 @@ impl<O: OffsetSizeTrait, C: Array + Copy> Array for GenericListArray<O, C> {
 
     ghost mark_needs = { λ a i l. mark_needed a.slots.marks i };
 
-    ghost absent_needs = { λ a i l. list_absence a.slots i (C.Array.entry a.child) (list_range O.WIDTH a.place a.slots (C.Array.size a.child)) };
+    ghost absent_needs = { λ a i l. list_absence a.slots i (C.Array.entry a.child) (ranges_of O.WIDTH C.Array.size a) };
 
-    ghost mark_alike = { λ a.
-        let w = O.WIDTH in
-        let size = C.Array.size a.child in
-        list_mark_alike a.slots size (C.Array.entry a.child) (list_range w a.place a.slots size) (list_words w a.place a.slots) (C.Array.spans a.child) };
+    ghost mark_alike = { λ a. list_mark_alike (ranged O.WIDTH C.Array.size a) (C.Array.spans a.child) };
 
-    ghost entry_alike = { λ a.
-        let w = O.WIDTH in
-        let size = C.Array.size a.child in
-        list_entry_alike a.slots size (C.Array.entry a.child) (list_range w a.place a.slots size) (list_words w a.place a.slots) (C.Array.spans a.child)
-        (list_inside w a.place a.slots size) (list_range_alike w a.place a.slots size) (C.Array.entry_alike a.child) };
+    ghost entry_alike = { λ a. list_entry_alike (ranged O.WIDTH C.Array.size a) (C.Array.spans a.child) (C.Array.entry_alike a.child) };
 
-    ghost shown_alike = { λ a.
-        let w = O.WIDTH in
-        let size = C.Array.size a.child in
-        list_shown_alike a.slots size (C.Array.entry a.child) (list_range w a.place a.slots size) (list_words w a.place a.slots) (C.Array.spans a.child)
-        (list_inside w a.place a.slots size) (list_range_alike w a.place a.slots size) (C.Array.entry_alike a.child) };
+    ghost shown_alike = { λ a. list_shown_alike (ranged O.WIDTH C.Array.size a) (C.Array.spans a.child) (C.Array.entry_alike a.child) };
 
     ghost cut_size = { Prim.search rules };
 
@@ -121,7 +104,7 @@ impl<O: OffsetSizeTrait, C: Array + Copy> Array for GenericListArray<O, C> {
 
     ghost cut_spans = { λ a s n l.
         let w = O.WIDTH in
-        list_within a.slots s n (list_words w a.place a.slots) (list_words w a.place (slots_cut a.slots s n)) (C.Array.spans a.child) (C.Array.spans a.child) l
+        list_within a.slots s n (words_of w a) (list_words w a.place (slots_cut a.slots s n)) (C.Array.spans a.child) (C.Array.spans a.child) l
         (list_words_cut w a.place a.slots (C.Array.size a.child) s n l) (λ k p. p) };
 
     fn len(&self) -> u64 {
@@ -134,10 +117,6 @@ impl<O: OffsetSizeTrait, C: Array + Copy> Array for GenericListArray<O, C> {
 
     fn is_null(&self, body: &[u8], i: u64) -> Result<bool, Stop> {
         self.slots.is_null(body, i)
-    }
-
-    fn is_valid(&self, body: &[u8], i: u64) -> Result<bool, Stop> {
-        self.slots.is_valid(body, i)
     }
 
     fn null_count(&self, body: &[u8]) -> Result<u64, Stop> {
@@ -161,12 +140,12 @@ impl<O: OffsetSizeTrait, C: Array + Copy> Array for GenericListArray<O, C> {
 
     fn fits(&self, body: &[u8]) -> bool {
         let len = self.len();
-        if len == 0 {
-            return true;
-        }
         let end = self.place as u128
             + O::width() as u128 * (self.slots.first as u128 + len as u128 + 1);
-        end <= body.len() as u128 && marks_fit(self.slots.marks, body, len) && self.child.fits(body)
+        len == 0
+            || end <= body.len() as u128
+                && marks_fit(self.slots.marks, body, len)
+                && self.child.fits(body)
     }
 }
 
@@ -175,7 +154,7 @@ impl<O: OffsetSizeTrait, C: Array + Copy> ListLikeArray for GenericListArray<O, 
 
     ghost child = { λ a. a.child };
 
-    ghost range = { λ a. list_range O.WIDTH a.place a.slots (C.Array.size a.child) };
+    ghost range = { ranges_of O.WIDTH C.Array.size };
 
     ghost range_need = { λ a. list_need O.WIDTH a.place a.slots };
 
@@ -196,36 +175,6 @@ impl<O: OffsetSizeTrait, C: Array + Copy> ListLikeArray for GenericListArray<O, 
             return Err(Stop::new(Reason::IndexPastEnd));
         }
         range_at::<O>(body, self.place, self.slots.first + i, self.child.len())
-    }
-}
-
-impl<O: OffsetSizeTrait, C: Array + Copy> ArrayAccessor for GenericListArray<O, C> {
-    type Item = C;
-
-    ghost item = { λ a b i. slice_in (C.Array.cut a.child) (list_range O.WIDTH a.place a.slots (C.Array.size a.child) b i) };
-
-    ghost source = { λ a b i. range_numbers (list_range O.WIDTH a.place a.slots (C.Array.size a.child) b i) };
-
-    ghost item_need = { λ a. list_need O.WIDTH a.place a.slots };
-
-    ghost told = { λ h b. whole_window (C.Array.size h) (C.Array.entry h b) };
-
-    ghost item_needs = { λ a i l.
-        let w = O.WIDTH in
-        let cs = C.Array.size a.child in
-        needed_into (list_need w a.place a.slots i) (λ b. list_range w a.place a.slots cs b i) range_numbers range_apart (list_needed w a.place a.slots cs i) };
-
-    ghost item_from = { λ a b c i l e. ap (slice_in (C.Array.cut a.child)) (range_apart _ _ e) };
-
-    ghost item_told = { λ a b i x l e m.
-        let w = O.WIDTH in
-        let cs = C.Array.size a.child in
-        rw m (item_told_lem cs (C.Array.entry a.child b) (C.Array.cut a.child) C.Array.size (λ h. C.Array.entry h b) (list_range w a.place a.slots cs b i) (list_inside w a.place a.slots cs b i l)
-        (λ s n k. C.Array.cut_size a.child s n k) (λ s n k j q. C.Array.cut_entry a.child s n k b j q) x e) };
-
-    fn value(&self, body: &[u8], i: u64) -> Result<C, Stop> {
-        let (from, to) = self.element_range(body, i)?;
-        self.child.slice(from, to - from)
     }
 }
 

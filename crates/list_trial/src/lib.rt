@@ -3,7 +3,7 @@
 ghost use Rattle.std.specs.Prelude.{◌≡◌, ℕ, ◌+◌, ◌-◌, ◌*◌, ◌<◌, ◌≤◌, length, Ok, Err, MatchResult};
 ghost use Rattle.history.specs.Calls.{TrialLeads, StopLeads};
 ghost use Rattle.history.specs.Entry.{is_absent};
-ghost use Rattle.ledger.specs.Ledger.{accounts_of};
+ghost use Rattle.ledger.specs.Ledger.{Kept};
 ghost use Rattle.slots.specs.Replies.{count_reply};
 ghost use Rattle.slots.specs.Trials.{new_slots};
 ghost use Rattle.array.specs.Lists.{list_seen};
@@ -33,8 +33,8 @@ pub fn try_new<O: OffsetSizeTrait, C: Array + Copy>(
     nulls: Option<NullBuffer>,
     child: C,
 ) -> Result<GenericListArray<O, C>, Stop>
-    ensures answers { result ≡ list_reply O.WIDTH (accounts_of ledger.now) body.now field place count nulls (C.Array.size child) (C.Array.spans child) (Ok (absents (C.Array.size child) (C.Array.entry child body.now))) (C.Array.form child) (record { place = place; slots = new_slots (count - 1) nulls; field = field; child = child; kind = record {} }) }
-    ensures leads { MatchResult result (λ h. TrialLeads body.now (accounts_of ledger.now).loaded (C.Array.spans child) (list_seen h.slots (C.Array.entry h.child) (list_range O.WIDTH h.place h.slots (C.Array.size h.child)) (list_words O.WIDTH h.place h.slots) (C.Array.spans h.child))) (λ _. StopLeads) }
+    ensures answers { result ≡ list_reply O.WIDTH ledger.now body.now field place count nulls (C.Array.size child) (C.Array.spans child) (Ok (absents (C.Array.size child) (C.Array.entry child body.now))) (C.Array.form child) (record { place = place; slots = new_slots (count - 1) nulls; field = field; child = child; kind = record {} }) }
+    ensures leads { MatchResult result (λ h. TrialLeads body.now ledger.now.loaded (C.Array.spans child) (list_seen h.slots (C.Array.entry h.child) (list_range O.WIDTH h.place h.slots (C.Array.size h.child)) (list_words O.WIDTH h.place h.slots) (C.Array.spans h.child))) (λ _. StopLeads) }
 {
     tried(ledger, body, field, place, count, nulls, child)
 }
@@ -48,7 +48,7 @@ fn tried<O: OffsetSizeTrait, C: Array + Copy>(
     nulls: Option<NullBuffer>,
     child: C,
 ) -> Result<GenericListArray<O, C>, Stop>
-    ensures { result ≡ list_reply O.WIDTH (accounts_of ledger.now) body.now field place count nulls (C.Array.size child) (C.Array.spans child) (count_reply (C.Array.size child) (C.Array.absent_need child) (λ j. is_absent (C.Array.entry child body.now j)) body.now) (C.Array.form child) (record { place = place; slots = new_slots (count - 1) nulls; field = field; child = child; kind = record {} }) }
+    ensures { result ≡ list_reply O.WIDTH ledger.now body.now field place count nulls (C.Array.size child) (C.Array.spans child) (count_reply (C.Array.size child) (C.Array.absent_need child) (λ j. is_absent (C.Array.entry child body.now j)) body.now) (C.Array.form child) (record { place = place; slots = new_slots (count - 1) nulls; field = field; child = child; kind = record {} }) }
 {
     check_own(
         ledger,

@@ -16,7 +16,9 @@ use Rattle.slots.specs.Slots.{slots_cut}
 use Rattle.slots.specs.Replies.{found}
 use Rattle.slots.proofs.SameSlots.{cut_first, cut_len}
 use Rattle.array.specs.Windows.{Range, Inside}
-use Rattle.list_view_array.specs.Views.{word_number, view_reply, view_of, view_found, view_range, view_need, view_words}
+use Rattle.array.proofs.ListLaws.{Ranged}
+use Rattle.list_view_array.specs.declared.list_view_array.GenericListViewArray.{GenericListViewArray}
+use Rattle.list_view_array.specs.Views.{word_number, view_reply, view_of, view_found, view_range, view_need, view_words, ranges_of, words_of}
 
 -- offsets have at most eight bytes
 pub few_bytes : (w : ℕ) → (w ≡ 4) ⊎ (w ≡ 8) → 256 ^ w ≤ 256 ^ 8
@@ -110,3 +112,10 @@ module _ (w starts sizes : ℕ) (s : Slots) (size : ℕ) where
       by true true x y = refl
       by true false x y = refl
       by false u x y = refl
+
+pub ranged : {O C : Type 0} (w : ℕ) (size : C → ℕ) (a : GenericListViewArray O C) → Ranged a.slots (size a.child) (ranges_of w size a) (words_of w a)
+ranged w size a =
+    record {
+      inside = view_inside w a.starts a.sizes a.slots (size a.child);
+      alike = view_range_alike w a.starts a.sizes a.slots (size a.child);
+    }

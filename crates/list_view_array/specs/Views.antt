@@ -7,6 +7,7 @@ use Rattle.ledger.specs.Stops.{stopped}
 use Rattle.slots.specs.declared.slots.Slots.{Slots}
 use Rattle.slots.specs.Replies.{found}
 use Rattle.array.specs.Windows.{Range}
+use Rattle.list_view_array.specs.declared.list_view_array.GenericListViewArray.{GenericListViewArray}
 
 -- word number k of w bytes after a place, as a signed number
 abbrev pub word_number : ℕ → ℕ → List ℕ → ℕ → ℤ
@@ -42,3 +43,10 @@ view_words w starts sizes s =
     span (8 * (starts + w * s.first)) (8 * (starts + w * (s.first + s.len)))
     ∷ span (8 * (sizes + w * s.first)) (8 * (sizes + w * (s.first + s.len)))
     ∷ []
+
+-- the ranges of a view's slots, where `size` counts a child's entries, and the bits of its starts and sizes
+abbrev pub ranges_of : {O C : Type 0} → ℕ → (C → ℕ) → GenericListViewArray O C → List ℕ → ℕ → Option Range
+ranges_of w size a = view_range w a.starts a.sizes a.slots (size a.child)
+
+abbrev pub words_of : {O C : Type 0} → ℕ → GenericListViewArray O C → List Span
+words_of w a = view_words w a.starts a.sizes a.slots

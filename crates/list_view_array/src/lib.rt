@@ -1,18 +1,18 @@
 #![tactic(auto)]
 
-ghost use Rattle.std.specs.Prelude.{◌≡◌, ℕ, ◌+◌, ◌*◌, ◌/◌, ◌<◌, ◌≤◌, List, length, nat_le, refl};
+ghost use Rattle.std.specs.Prelude.{◌≡◌, ◌+◌, ◌*◌, ◌/◌, length, nat_le, refl};
 ghost use Rattle.std.proofs.Common.{ap, rules};
 ghost use Rattle.form.specs.Forms.{layer_form};
 ghost use Rattle.slots.specs.Slots.{slot_mark, slot_need, slots_cut};
-ghost use Rattle.array.specs.Lists.{list_shown, list_entry, list_spans, list_seen, slice_in, range_numbers, whole_window};
-ghost use Rattle.list_view_array.specs.Views.{view_of, view_found, view_reply, view_range, view_need, view_words};
-ghost use Rattle.layout.proofs.NeedLaws.{mark_needed, needed_into};
-ghost use Rattle.array.proofs.ListLaws.{list_absence, list_mark_alike, list_entry_alike, list_shown_alike, list_within, range_apart, item_told_lem};
-ghost use Rattle.list_view_array.specs.ViewLaws.{view_inside, view_range_alike, view_range_cut, view_words_cut, view_needed, few_bytes};
+ghost use Rattle.array.specs.Lists.{list_shown, list_entry, list_spans, list_seen};
+ghost use Rattle.list_view_array.specs.Views.{view_of, view_found, view_reply, view_need, view_words, ranges_of, words_of};
+ghost use Rattle.layout.proofs.NeedLaws.{mark_needed};
+ghost use Rattle.array.proofs.ListLaws.{list_absence, list_mark_alike, list_entry_alike, list_shown_alike, list_within};
+ghost use Rattle.list_view_array.specs.ViewLaws.{view_inside, view_range_cut, view_words_cut, view_needed, few_bytes, ranged};
 ghost use Rattle.slots.proofs.Leaves.{slots_mark};
 ghost use Rattle.array.specs.Windows.{window_in};
 
-use array::array::{Array, ArrayAccessor, ListLikeArray};
+use array::array::{Array, ListLikeArray};
 use array::offset_size::OffsetSizeTrait;
 use form::data_type::{DataType, Field};
 use layout::bits::marks_fit;
@@ -34,11 +34,8 @@ pub fn view_in(size: u64, start: i64, count: i64) -> Option<(u64, u64)>
     ensures { result ≡ view_of size start count }
 {
     let from = start.cast_unsigned();
-    let end = from as u128 + count.cast_unsigned() as u128;
-    if end > size as u128 {
-        return None;
-    }
-    Some((from, end as u64))
+    let end = from.checked_add(count.cast_unsigned())?;
+    (end <= size).then_some((from, end))
 }
 
 // The range of start and size number k in a child of so many entries.
@@ -51,16 +48,9 @@ fn view_at<O: OffsetSizeTrait>(
 ) -> Result<(u64, u64), Stop>
     ensures { result ≡ view_found size (view_reply O.WIDTH starts sizes body.now k) }
 {
-    let Some(start) = O::read_nth(body, starts, k) else {
-        return Err(Stop::new(Reason::BeyondBytes));
-    };
-    let Some(count) = O::read_nth(body, sizes, k) else {
-        return Err(Stop::new(Reason::BeyondBytes));
-    };
-    match view_in(size, start, count) {
-        Some(range) => Ok(range),
-        None => Err(Stop::new(Reason::NoRange)),
-    }
+    let start = O::read_nth(body, starts, k).ok_or(Stop::new(Reason::BeyondBytes))?;
+    let count = O::read_nth(body, sizes, k).ok_or(Stop::new(Reason::BeyondBytes))?;
+    view_in(size, start, count).ok_or(Stop::new(Reason::NoRange))
 }
 
 impl<O: OffsetSizeTrait, C: Array + Copy> Array for GenericListViewArray<O, C> {
@@ -72,17 +62,17 @@ impl<O: OffsetSizeTrait, C: Array + Copy> Array for GenericListViewArray<O, C> {
 
     ghost mark_need = { λ a. slot_need a.slots };
 
-    ghost entry = { λ a. list_entry a.slots (C.Array.entry a.child) (view_range O.WIDTH a.starts a.sizes a.slots (C.Array.size a.child)) };
+    ghost entry = { λ a. list_entry a.slots (C.Array.entry a.child) (ranges_of O.WIDTH C.Array.size a) };
 
     ghost absent_need = { λ a. slot_need a.slots };
 
-    ghost shown = { λ a. list_shown (C.Array.entry a.child) (view_range O.WIDTH a.starts a.sizes a.slots (C.Array.size a.child)) };
+    ghost shown = { λ a. list_shown (C.Array.entry a.child) (ranges_of O.WIDTH C.Array.size a) };
 
-    ghost spans = { λ a. list_spans a.slots (view_words O.WIDTH a.starts a.sizes a.slots) (C.Array.spans a.child) };
+    ghost spans = { λ a. list_spans a.slots (words_of O.WIDTH a) (C.Array.spans a.child) };
 
     ghost cut = { λ a s n. record { starts = a.starts; sizes = a.sizes; slots = slots_cut a.slots s n; field = a.field; child = a.child; kind = a.kind } };
 
-    ghost seen = { λ a. list_seen a.slots (C.Array.entry a.child) (view_range O.WIDTH a.starts a.sizes a.slots (C.Array.size a.child)) (view_words O.WIDTH a.starts a.sizes a.slots) (C.Array.spans a.child) };
+    ghost seen = { λ a. list_seen a.slots (C.Array.entry a.child) (ranges_of O.WIDTH C.Array.size a) (words_of O.WIDTH a) (C.Array.spans a.child) };
 
     ghost sight = { Prim.search rules };
 
@@ -94,24 +84,13 @@ impl<O: OffsetSizeTrait, C: Array + Copy> Array for GenericListViewArray<O, C> {
 
     ghost mark_needs = { λ a i l. mark_needed a.slots.marks i };
 
-    ghost absent_needs = { λ a i l. list_absence a.slots i (C.Array.entry a.child) (view_range O.WIDTH a.starts a.sizes a.slots (C.Array.size a.child)) };
+    ghost absent_needs = { λ a i l. list_absence a.slots i (C.Array.entry a.child) (ranges_of O.WIDTH C.Array.size a) };
 
-    ghost mark_alike = { λ a.
-        let w = O.WIDTH in
-        let size = C.Array.size a.child in
-        list_mark_alike a.slots size (C.Array.entry a.child) (view_range w a.starts a.sizes a.slots size) (view_words w a.starts a.sizes a.slots) (C.Array.spans a.child) };
+    ghost mark_alike = { λ a. list_mark_alike (ranged O.WIDTH C.Array.size a) (C.Array.spans a.child) };
 
-    ghost entry_alike = { λ a.
-        let w = O.WIDTH in
-        let size = C.Array.size a.child in
-        list_entry_alike a.slots size (C.Array.entry a.child) (view_range w a.starts a.sizes a.slots size) (view_words w a.starts a.sizes a.slots) (C.Array.spans a.child)
-        (view_inside w a.starts a.sizes a.slots size) (view_range_alike w a.starts a.sizes a.slots size) (C.Array.entry_alike a.child) };
+    ghost entry_alike = { λ a. list_entry_alike (ranged O.WIDTH C.Array.size a) (C.Array.spans a.child) (C.Array.entry_alike a.child) };
 
-    ghost shown_alike = { λ a.
-        let w = O.WIDTH in
-        let size = C.Array.size a.child in
-        list_shown_alike a.slots size (C.Array.entry a.child) (view_range w a.starts a.sizes a.slots size) (view_words w a.starts a.sizes a.slots) (C.Array.spans a.child)
-        (view_inside w a.starts a.sizes a.slots size) (view_range_alike w a.starts a.sizes a.slots size) (C.Array.entry_alike a.child) };
+    ghost shown_alike = { λ a. list_shown_alike (ranged O.WIDTH C.Array.size a) (C.Array.spans a.child) (C.Array.entry_alike a.child) };
 
     ghost cut_size = { Prim.search rules };
 
@@ -125,7 +104,7 @@ impl<O: OffsetSizeTrait, C: Array + Copy> Array for GenericListViewArray<O, C> {
 
     ghost cut_spans = { λ a s n l.
         let w = O.WIDTH in
-        list_within a.slots s n (view_words w a.starts a.sizes a.slots) (view_words w a.starts a.sizes (slots_cut a.slots s n)) (C.Array.spans a.child) (C.Array.spans a.child) l
+        list_within a.slots s n (words_of w a) (view_words w a.starts a.sizes (slots_cut a.slots s n)) (C.Array.spans a.child) (C.Array.spans a.child) l
         (view_words_cut w a.starts a.sizes a.slots (C.Array.size a.child) s n l) (λ k p. p) };
 
     fn len(&self) -> u64 {
@@ -138,10 +117,6 @@ impl<O: OffsetSizeTrait, C: Array + Copy> Array for GenericListViewArray<O, C> {
 
     fn is_null(&self, body: &[u8], i: u64) -> Result<bool, Stop> {
         self.slots.is_null(body, i)
-    }
-
-    fn is_valid(&self, body: &[u8], i: u64) -> Result<bool, Stop> {
-        self.slots.is_valid(body, i)
     }
 
     fn null_count(&self, body: &[u8]) -> Result<u64, Stop> {
@@ -166,14 +141,12 @@ impl<O: OffsetSizeTrait, C: Array + Copy> Array for GenericListViewArray<O, C> {
 
     fn fits(&self, body: &[u8]) -> bool {
         let len = self.len();
-        if len == 0 {
-            return true;
-        }
         let end = self.slots.first + len;
-        if !words_fit::<O>(body, self.starts, end) || !words_fit::<O>(body, self.sizes, end) {
-            return false;
-        }
-        marks_fit(self.slots.marks, body, len) && self.child.fits(body)
+        len == 0
+            || words_fit::<O>(body, self.starts, end)
+                && words_fit::<O>(body, self.sizes, end)
+                && marks_fit(self.slots.marks, body, len)
+                && self.child.fits(body)
     }
 }
 
@@ -182,7 +155,7 @@ impl<O: OffsetSizeTrait, C: Array + Copy> ListLikeArray for GenericListViewArray
 
     ghost child = { λ a. a.child };
 
-    ghost range = { λ a. view_range O.WIDTH a.starts a.sizes a.slots (C.Array.size a.child) };
+    ghost range = { ranges_of O.WIDTH C.Array.size };
 
     ghost range_need = { λ a. view_need O.WIDTH a.starts a.sizes a.slots };
 
@@ -209,36 +182,6 @@ impl<O: OffsetSizeTrait, C: Array + Copy> ListLikeArray for GenericListViewArray
             self.slots.first + i,
             self.child.len(),
         )
-    }
-}
-
-impl<O: OffsetSizeTrait, C: Array + Copy> ArrayAccessor for GenericListViewArray<O, C> {
-    type Item = C;
-
-    ghost item = { λ a b i. slice_in (C.Array.cut a.child) (view_range O.WIDTH a.starts a.sizes a.slots (C.Array.size a.child) b i) };
-
-    ghost source = { λ a b i. range_numbers (view_range O.WIDTH a.starts a.sizes a.slots (C.Array.size a.child) b i) };
-
-    ghost item_need = { λ a. view_need O.WIDTH a.starts a.sizes a.slots };
-
-    ghost told = { λ h b. whole_window (C.Array.size h) (C.Array.entry h b) };
-
-    ghost item_needs = { λ a i l.
-        let w = O.WIDTH in
-        let cs = C.Array.size a.child in
-        needed_into (view_need w a.starts a.sizes a.slots i) (λ b. view_range w a.starts a.sizes a.slots cs b i) range_numbers range_apart (view_needed w a.starts a.sizes a.slots cs (few_bytes O.WIDTH O.OffsetSizeTrait.wide) i) };
-
-    ghost item_from = { λ a b c i l e. ap (slice_in (C.Array.cut a.child)) (range_apart _ _ e) };
-
-    ghost item_told = { λ a b i x l e m.
-        let w = O.WIDTH in
-        let cs = C.Array.size a.child in
-        rw m (item_told_lem cs (C.Array.entry a.child b) (C.Array.cut a.child) C.Array.size (λ h. C.Array.entry h b) (view_range w a.starts a.sizes a.slots cs b i) (view_inside w a.starts a.sizes a.slots cs b i l)
-        (λ s n k. C.Array.cut_size a.child s n k) (λ s n k j q. C.Array.cut_entry a.child s n k b j q) x e) };
-
-    fn value(&self, body: &[u8], i: u64) -> Result<C, Stop> {
-        let (from, to) = self.element_range(body, i)?;
-        self.child.slice(from, to - from)
     }
 }
 

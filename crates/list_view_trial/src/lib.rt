@@ -3,7 +3,7 @@
 ghost use Rattle.std.specs.Prelude.{◌≡◌, ℕ, ◌+◌, ◌*◌, ◌<◌, ◌≤◌, length, Ok, Err, MatchResult};
 ghost use Rattle.history.specs.Calls.{TrialLeads, StopLeads};
 ghost use Rattle.history.specs.Entry.{is_absent};
-ghost use Rattle.ledger.specs.Ledger.{accounts_of};
+ghost use Rattle.ledger.specs.Ledger.{Kept};
 ghost use Rattle.slots.specs.Replies.{count_reply};
 ghost use Rattle.slots.specs.Trials.{new_slots};
 ghost use Rattle.array.specs.Lists.{list_seen};
@@ -36,8 +36,8 @@ pub fn try_new<O: OffsetSizeTrait, C: Array + Copy>(
     nulls: Option<NullBuffer>,
     child: C,
 ) -> Result<GenericListViewArray<O, C>, Stop>
-    ensures answers { result ≡ view_trial O.WIDTH (accounts_of ledger.now) body.now field starts sizes nulls (C.Array.size child) (C.Array.spans child) (Ok (absents (C.Array.size child) (C.Array.entry child body.now))) (C.Array.form child) (record { starts = starts.place; sizes = sizes.place; slots = new_slots starts.len nulls; field = field; child = child; kind = record {} }) }
-    ensures leads { MatchResult result (λ h. TrialLeads body.now (accounts_of ledger.now).loaded (C.Array.spans child) (list_seen h.slots (C.Array.entry h.child) (view_range O.WIDTH h.starts h.sizes h.slots (C.Array.size h.child)) (view_words O.WIDTH h.starts h.sizes h.slots) (C.Array.spans h.child))) (λ _. StopLeads) }
+    ensures answers { result ≡ view_trial O.WIDTH ledger.now body.now field starts sizes nulls (C.Array.size child) (C.Array.spans child) (Ok (absents (C.Array.size child) (C.Array.entry child body.now))) (C.Array.form child) (record { starts = starts.place; sizes = sizes.place; slots = new_slots starts.len nulls; field = field; child = child; kind = record {} }) }
+    ensures leads { MatchResult result (λ h. TrialLeads body.now ledger.now.loaded (C.Array.spans child) (list_seen h.slots (C.Array.entry h.child) (view_range O.WIDTH h.starts h.sizes h.slots (C.Array.size h.child)) (view_words O.WIDTH h.starts h.sizes h.slots) (C.Array.spans h.child))) (λ _. StopLeads) }
 {
     tried(ledger, body, field, starts, sizes, nulls, child)
 }
@@ -51,7 +51,7 @@ fn tried<O: OffsetSizeTrait, C: Array + Copy>(
     nulls: Option<NullBuffer>,
     child: C,
 ) -> Result<GenericListViewArray<O, C>, Stop>
-    ensures { result ≡ view_trial O.WIDTH (accounts_of ledger.now) body.now field starts sizes nulls (C.Array.size child) (C.Array.spans child) (count_reply (C.Array.size child) (C.Array.absent_need child) (λ j. is_absent (C.Array.entry child body.now j)) body.now) (C.Array.form child) (record { starts = starts.place; sizes = sizes.place; slots = new_slots starts.len nulls; field = field; child = child; kind = record {} }) }
+    ensures { result ≡ view_trial O.WIDTH ledger.now body.now field starts sizes nulls (C.Array.size child) (C.Array.spans child) (count_reply (C.Array.size child) (C.Array.absent_need child) (λ j. is_absent (C.Array.entry child body.now j)) body.now) (C.Array.form child) (record { starts = starts.place; sizes = sizes.place; slots = new_slots starts.len nulls; field = field; child = child; kind = record {} }) }
 {
     check_own(
         ledger,

@@ -1,10 +1,11 @@
-use Rattle.std.specs.Prelude.{ℕ, ◌-◌, ◌≤◌, min, true, List, [], None, Ok, Result}
+use Rattle.std.specs.Prelude.{ℕ, ◌+◌, ◌-◌, ◌≤◌, min, true, List, [], None, Ok, Result}
 use Rattle.std.proofs.Common.{arith}
 use Rattle.ledger.specs.declared.stop.Stop.{Stop}
 use Rattle.ledger.specs.Ledger.{Accounts}
 use Rattle.history.specs.Entry.Entry.{absent}
 use Rattle.history.specs.Moments.{Handle}
 use Rattle.history.specs.Calls.{seen}
+use Rattle.slots.specs.declared.slots.Slots.{Slots}
 use Rattle.slots.specs.Bounds.{length_limit}
 use Rattle.slots.specs.Trials.{and_then, bytes_reply, length_reply}
 use Rattle.null_array.specs.declared.null_array.NullArray.{NullArray}
@@ -14,6 +15,14 @@ cut_limit len s n h = omega arith
 
 pub new_limit : (len : ℕ) → min len length_limit ≤ length_limit
 new_limit len = omega arith
+
+pub slots_limit : (len : ℕ) → len ≤ length_limit → 0 + len ≤ length_limit
+slots_limit len h = omega arith
+
+-- its slots: no mark is null
+abbrev pub null_slots : NullArray → Slots
+null_slots a =
+    record { first = 0; len = a.len; marks = None; words_end = slots_limit a.len a.limit; marks_end = slots_limit a.len a.limit }
 
 -- the n slots from a slot on, as far as there are so many
 abbrev pub null_cut : NullArray → ℕ → ℕ → NullArray

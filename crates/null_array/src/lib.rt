@@ -1,40 +1,48 @@
 #![tactic(auto)]
 
-ghost use Rattle.std.specs.Prelude.{◌≡◌, ℕ, ◌+◌, ◌≤◌, true, [], MatchResult};
+ghost use Rattle.std.specs.Prelude.{◌≡◌, true, [], MatchResult};
 ghost use Rattle.history.specs.Entry.Entry.{absent};
 ghost use Rattle.history.specs.Calls.{TrialLeads, StopLeads};
 ghost use Rattle.form.specs.Forms.{leaf_form};
-ghost use Rattle.ledger.specs.Ledger.{accounts_of};
-ghost use Rattle.null_array.specs.Nulls.{null_cut, null_reply, null_seen};
-ghost use Rattle.std.proofs.Common.{rules, arith};
+ghost use Rattle.null_array.specs.Nulls.{null_slots, null_cut, null_reply, null_seen};
+ghost use Rattle.std.proofs.Common.{rules};
 
 use array::array::Array;
-use form::data_type::DataType;
+use form::data_type::{DataType, Leaf};
 use ledger::ledger::Ledger;
-use ledger::stop::{Reason, Stop};
+use ledger::stop::Stop;
 use null_array::NullArray;
-use slots::trials::{LENGTH_LIMIT, check_bytes};
+use slots::slots::Slots;
+use slots::trials::try_slots;
 
 pub mod null_array;
 
 impl NullArray {
     // A null leaf of so many slots.
     pub fn try_new(ledger: &Ledger, body: &[u8], len: u64) -> Result<NullArray, Stop>
-        ensures answers { result ≡ null_reply (accounts_of ledger.now) body.now len }
-        ensures leads { MatchResult result (λ h. TrialLeads body.now (accounts_of ledger.now).loaded [] (null_seen h)) (λ _. StopLeads) }
+        ensures answers { result ≡ null_reply ledger.now body.now len }
+        ensures leads { MatchResult result (λ h. TrialLeads body.now ledger.now.loaded [] (null_seen h)) (λ _. StopLeads) }
     {
         tried(ledger, body, len)
+    }
+
+    // The slots, without marks.
+    fn slots(&self) -> Slots
+        ensures { result ≡ null_slots self.now }
+    {
+        Slots {
+            first: 0,
+            len: self.len,
+            marks: None,
+        }
     }
 }
 
 fn tried(ledger: &Ledger, body: &[u8], len: u64) -> Result<NullArray, Stop>
-    ensures { result ≡ null_reply (accounts_of ledger.now) body.now len }
+    ensures { result ≡ null_reply ledger.now body.now len }
 {
-    check_bytes(ledger, body, 0, None)?;
-    if len > LENGTH_LIMIT {
-        return Err(Stop::new(Reason::TooLarge));
-    }
-    Ok(NullArray { len })
+    let slots = try_slots(ledger, body, 0, len, None)?;
+    Ok(NullArray { len: slots.len })
 }
 
 impl Array for NullArray {
@@ -58,56 +66,46 @@ impl Array for NullArray {
 
     ghost seen = { null_seen };
 
-    ghost sight = { first_of (Prim.search rules, Prim.grind (arith, Self.row.coded.inj)) };
+    ghost sight = { Prim.search rules };
 
-    ghost limit = { first_of (Prim.search rules, Prim.grind (arith, Self.row.coded.inj)) };
+    ghost limit = { Prim.search rules };
 
-    ghost null_absent = { first_of (Prim.search rules, Prim.grind (arith, Self.row.coded.inj)) };
+    ghost null_absent = { Prim.search rules };
 
-    ghost shown_entry = { first_of (Prim.search rules, Prim.grind (arith, Self.row.coded.inj)) };
+    ghost shown_entry = { Prim.search rules };
 
-    ghost mark_needs = { first_of (Prim.search rules, Prim.grind (arith, Self.row.coded.inj)) };
+    ghost mark_needs = { Prim.search rules };
 
-    ghost absent_needs = { first_of (Prim.search rules, Prim.grind (arith, Self.row.coded.inj)) };
+    ghost absent_needs = { Prim.search rules };
 
-    ghost mark_alike = { first_of (Prim.search rules, Prim.grind (arith, Self.row.coded.inj)) };
+    ghost mark_alike = { Prim.search rules };
 
-    ghost entry_alike = { first_of (Prim.search rules, Prim.grind (arith, Self.row.coded.inj)) };
+    ghost entry_alike = { Prim.search rules };
 
-    ghost shown_alike = { first_of (Prim.search rules, Prim.grind (arith, Self.row.coded.inj)) };
+    ghost shown_alike = { Prim.search rules };
 
-    ghost cut_size = { first_of (Prim.search rules, Prim.grind (arith, Self.row.coded.inj)) };
+    ghost cut_size = { Prim.search rules };
 
-    ghost cut_form = { first_of (Prim.search rules, Prim.grind (arith, Self.row.coded.inj)) };
+    ghost cut_form = { Prim.search rules };
 
-    ghost cut_mark = { first_of (Prim.search rules, Prim.grind (arith, Self.row.coded.inj)) };
+    ghost cut_mark = { Prim.search rules };
 
-    ghost cut_entry = { first_of (Prim.search rules, Prim.grind (arith, Self.row.coded.inj)) };
+    ghost cut_entry = { Prim.search rules };
 
-    ghost cut_shown = { first_of (Prim.search rules, Prim.grind (arith, Self.row.coded.inj)) };
+    ghost cut_shown = { Prim.search rules };
 
-    ghost cut_spans = { first_of (Prim.search rules, Prim.grind (arith, Self.row.coded.inj)) };
+    ghost cut_spans = { Prim.search rules };
 
     fn len(&self) -> u64 {
         self.len
     }
 
     fn data_type(&self) -> DataType {
-        DataType::leaf(1)
+        Leaf::Null.into()
     }
 
-    fn is_null(&self, _body: &[u8], i: u64) -> Result<bool, Stop> {
-        if i >= self.len {
-            return Err(Stop::new(Reason::IndexPastEnd));
-        }
-        Ok(false)
-    }
-
-    fn is_valid(&self, _body: &[u8], i: u64) -> Result<bool, Stop> {
-        if i >= self.len {
-            return Err(Stop::new(Reason::IndexPastEnd));
-        }
-        Ok(true)
+    fn is_null(&self, body: &[u8], i: u64) -> Result<bool, Stop> {
+        self.slots().is_null(body, i)
     }
 
     fn null_count(&self, _body: &[u8]) -> Result<u64, Stop> {
@@ -119,10 +117,8 @@ impl Array for NullArray {
     }
 
     fn slice(&self, start: u64, n: u64) -> Result<Self, Stop> {
-        if n > self.len || start > self.len - n {
-            return Err(Stop::new(Reason::IndexPastEnd));
-        }
-        Ok(NullArray { len: n })
+        let Slots { len, .. } = self.slots().cut(start, n)?;
+        Ok(NullArray { len })
     }
 
     fn fits(&self, _body: &[u8]) -> bool {

@@ -5,7 +5,6 @@ ghost use Rattle.std.proofs.Common.{ap, rules};
 ghost use Rattle.history.specs.Entry.Entry.{number};
 ghost use Rattle.history.specs.Calls.{TrialLeads, StopLeads};
 ghost use Rattle.form.specs.Forms.{leaf_form};
-ghost use Rattle.ledger.specs.Ledger.{accounts_of};
 ghost use Rattle.layout.specs.Words.{word_at};
 ghost use Rattle.slots.specs.Slots.{slot_mark, slot_need, slots_cut};
 ghost use Rattle.slots.specs.Trials.{with_slots};
@@ -45,8 +44,8 @@ pub fn try_new<T: ArrowPrimitiveType>(
     len: u64,
     nulls: Option<NullBuffer>,
 ) -> Result<PrimitiveArray<T>, Stop>
-    ensures answers { result ≡ with_slots (λ s. record { place = place; slots = s; kind = record {} }) (number_reply T.ArrowPrimitiveType.width (accounts_of ledger.now) body.now place len nulls) }
-    ensures leads { MatchResult result (λ h. TrialLeads body.now (accounts_of ledger.now).loaded [] (number_seen T.ArrowPrimitiveType.width T.ArrowPrimitiveType.whole h.place h.slots)) (λ _. StopLeads) }
+    ensures answers { result ≡ with_slots (λ s. record { place = place; slots = s; kind = record {} }) (number_reply T.ArrowPrimitiveType.width ledger.now body.now place len nulls) }
+    ensures leads { MatchResult result (λ h. TrialLeads body.now ledger.now.loaded [] (number_seen T.ArrowPrimitiveType.width T.ArrowPrimitiveType.whole h.place h.slots)) (λ _. StopLeads) }
 {
     tried(ledger, body, place, len, nulls)
 }
@@ -58,7 +57,7 @@ fn tried<T: ArrowPrimitiveType>(
     len: u64,
     nulls: Option<NullBuffer>,
 ) -> Result<PrimitiveArray<T>, Stop>
-    ensures { result ≡ with_slots (λ s. record { place = place; slots = s; kind = record {} }) (number_reply T.ArrowPrimitiveType.width (accounts_of ledger.now) body.now place len nulls) }
+    ensures { result ≡ with_slots (λ s. record { place = place; slots = s; kind = record {} }) (number_reply T.ArrowPrimitiveType.width ledger.now body.now place len nulls) }
 {
     let slots = try_slots(ledger, body, words_end(T::width(), place, len), len, nulls)?;
     Ok(PrimitiveArray {
@@ -129,10 +128,6 @@ impl<T: ArrowPrimitiveType> Array for PrimitiveArray<T> {
 
     fn is_null(&self, body: &[u8], i: u64) -> Result<bool, Stop> {
         self.slots.is_null(body, i)
-    }
-
-    fn is_valid(&self, body: &[u8], i: u64) -> Result<bool, Stop> {
-        self.slots.is_valid(body, i)
     }
 
     fn null_count(&self, body: &[u8]) -> Result<u64, Stop> {

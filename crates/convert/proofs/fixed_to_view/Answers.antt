@@ -1,5 +1,5 @@
 use Rattle.std.proofs.Common.{◌≡◌, ℕ, ◌+◌, ◌*◌, ◌≤◌, Bool, cond, List, [], length, sym, ap, ◌∙◌, subst, rules, eqb-true, leb-true}
-use Rattle.ledger.specs.Ledger.{Accounts, accounts_of, aligned, second, reservation2}
+use Rattle.ledger.specs.Ledger.{Accounts, aligned, second, reservation2}
 use Rattle.history.specs.Calls.{TurnLeads}
 use Rattle.slots.specs.declared.slots.Slots.{Slots}
 use Rattle.slots.specs.Replies.{find_reply}
@@ -16,7 +16,7 @@ pub returns : goal.returns
 returns g c =
     let a = c.args.a.now in
     let b = c.args.body.now in
-    let ledger = accounts_of c.args.ledger.now in
+    let ledger = c.args.ledger.now in
     let w = g.O.ArrowNativeType.WIDTH in
     let s = a.slots in
     let n = w * s.len in
@@ -37,16 +37,16 @@ returns g c =
     let views = views_put w (λ d i. find_reply s.len (λ j. []) (fixed_range a.size cs) d i) (aligned ledger.end) (second ledger n) b s.len in
     let ex : x ≡ aligned ledger.end = ap (λ (q : ℕ × ℕ). q.0) p.1 in
     let ey : y ≡ second ledger n = ap (λ (q : ℕ × ℕ). q.1) p.1 in
-    let after : (accounts_of c.fixed_turned.new.ledger).end ≡ second ledger n + n = ap (λ (q : Accounts). q.end) e.account ∙ ap (λ (u : Bool). (cond u (record { length = ledger.length; loaded = ledger.loaded; end = second ledger n + n }) ledger).end) p.0 in
+    let after : c.fixed_turned.new.ledger.end ≡ second ledger n + n = ap (λ (q : Accounts). q.end) e.account ∙ ap (λ (u : Bool). (cond u (record { length = ledger.length; loaded = ledger.loaded; end = second ledger n + n }) ledger).end) p.0 in
     record {
       answers = search rules;
       account = e.account;
       leaves = e.leaves;
       leads = λ below.
           let base : T (aligned ledger.end) (second ledger n) (fresh_slots s) (second ledger n + n) views = fixed_turns w g.met.O.OffsetSizeTrait.wide a.size s cs f child (g.met.C.Array.entry_alike a.child) b ledger (sym l) z t.1.0 t.1.1 below in
-          subst (λ u. T u y c.fresh.result (accounts_of c.fixed_turned.new.ledger).end c.fixed_turned.new.body) (sym ex)
-          (subst (λ v. T (aligned ledger.end) v c.fresh.result (accounts_of c.fixed_turned.new.ledger).end c.fixed_turned.new.body) (sym ey)
-          (subst (λ r. T (aligned ledger.end) (second ledger n) r (accounts_of c.fixed_turned.new.ledger).end c.fixed_turned.new.body) (sym c.fresh.ensures)
+          subst (λ u. T u y c.fresh.result c.fixed_turned.new.ledger.end c.fixed_turned.new.body) (sym ex)
+          (subst (λ v. T (aligned ledger.end) v c.fresh.result c.fixed_turned.new.ledger.end c.fixed_turned.new.body) (sym ey)
+          (subst (λ r. T (aligned ledger.end) (second ledger n) r c.fixed_turned.new.ledger.end c.fixed_turned.new.body) (sym c.fresh.ensures)
           (subst (λ end. T (aligned ledger.end) (second ledger n) (fresh_slots s) end c.fixed_turned.new.body) (sym after)
           (subst (λ d. T (aligned ledger.end) (second ledger n) (fresh_slots s) (second ledger n + n) d) (sym e.leaves) base))));
     }

@@ -1,5 +1,5 @@
 use Rattle.std.proofs.Common.{◌≡◌, ℕ, ◌+◌, ◌*◌, ◌≤◌, Bool, cond, List, length, sym, ap, ◌∙◌, subst, rules, eqb-true, leb-true}
-use Rattle.ledger.specs.Ledger.{Accounts, accounts_of, aligned, second, reservation2}
+use Rattle.ledger.specs.Ledger.{Accounts, aligned, second, reservation2}
 use Rattle.layout.specs.Spans.{in_body}
 use Rattle.history.specs.Entry.{is_absent}
 use Rattle.history.specs.Calls.{TurnLeads}
@@ -17,7 +17,7 @@ pub returns : goal.returns
 returns g c =
     let a = c.args.a.now in
     let b = c.args.body.now in
-    let ledger = accounts_of c.args.ledger.now in
+    let ledger = c.args.ledger.now in
     let w = g.O.ArrowNativeType.WIDTH in
     let s = a.slots in
     let n = w * s.len in
@@ -39,16 +39,16 @@ returns g c =
     let views = views_put w (λ d i. find_reply s.len (list_need w a.place s) (list_range w a.place s cs d) d i) (aligned ledger.end) (second ledger n) b s.len in
     let ex : x ≡ aligned ledger.end = ap (λ (q : ℕ × ℕ). q.0) p.1 in
     let ey : y ≡ second ledger n = ap (λ (q : ℕ × ℕ). q.1) p.1 in
-    let after : (accounts_of c.turned.new.ledger).end ≡ second ledger n + n = ap (λ (q : Accounts). q.end) e.account ∙ ap (λ (u : Bool). (cond u (record { length = ledger.length; loaded = ledger.loaded; end = second ledger n + n }) ledger).end) p.0 in
+    let after : c.turned.new.ledger.end ≡ second ledger n + n = ap (λ (q : Accounts). q.end) e.account ∙ ap (λ (u : Bool). (cond u (record { length = ledger.length; loaded = ledger.loaded; end = second ledger n + n }) ledger).end) p.0 in
     record {
       answers = search rules;
       account = e.account;
       leaves = e.leaves;
       leads = λ below.
           let base : T (aligned ledger.end) (second ledger n) (fresh_slots s) (second ledger n + n) views = list_turns w g.met.O.OffsetSizeTrait.wide a.place s cs f child (g.met.C.Array.entry_alike a.child) b ledger (sym l) z t.1 below in
-          subst (λ u. T u y c.fresh.result (accounts_of c.turned.new.ledger).end c.turned.new.body) (sym ex)
-          (subst (λ v. T (aligned ledger.end) v c.fresh.result (accounts_of c.turned.new.ledger).end c.turned.new.body) (sym ey)
-          (subst (λ r. T (aligned ledger.end) (second ledger n) r (accounts_of c.turned.new.ledger).end c.turned.new.body) (sym c.fresh.ensures)
+          subst (λ u. T u y c.fresh.result c.turned.new.ledger.end c.turned.new.body) (sym ex)
+          (subst (λ v. T (aligned ledger.end) v c.fresh.result c.turned.new.ledger.end c.turned.new.body) (sym ey)
+          (subst (λ r. T (aligned ledger.end) (second ledger n) r c.turned.new.ledger.end c.turned.new.body) (sym c.fresh.ensures)
           (subst (λ end. T (aligned ledger.end) (second ledger n) (fresh_slots s) end c.turned.new.body) (sym after)
           (subst (λ d. T (aligned ledger.end) (second ledger n) (fresh_slots s) (second ledger n + n) d) (sym e.leaves) base))));
     }

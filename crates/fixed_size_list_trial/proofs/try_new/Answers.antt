@@ -1,6 +1,5 @@
 use Rattle.std.proofs.Common.{nat_abs, sym, w32, SFits, rules}
 use Rattle.std.proofs.lemmas.Int.{to_z-of_z}
-use Rattle.ledger.specs.Ledger.{accounts_of}
 use Rattle.form.specs.Forms.{fixed_reply}
 use Rattle.history.proofs.Leading.{stop_leads}
 use Rattle.slots.specs.Slots.{slot_mark}
@@ -13,7 +12,7 @@ use Rattle.fixed_size_list_trial.proofs.try_new.Goals as goal
 
 pub returns : goal.returns
 returns g c =
-    let ledger = accounts_of c.args.ledger.now in
+    let ledger = c.args.ledger.now in
     let b = c.args.body.now in
     let nulls = c.args.nulls in
     let child = c.args.child in

@@ -1,6 +1,5 @@
 use Rattle.std.proofs.Common.{ℕ, ◌+◌, ◌-◌, ◌*◌, ◌/◌, ◌^◌, ◌<◌, Ok, Result, sym, ap, ◌∙◌, rules}
 use Rattle.ledger.specs.declared.stop.Stop.{Stop}
-use Rattle.ledger.specs.Ledger.{accounts_of}
 use Rattle.form.specs.Forms.{layer_reply}
 use Rattle.history.specs.Entry.{is_absent}
 use Rattle.history.proofs.Leading.{stop_leads}
@@ -16,7 +15,7 @@ use Rattle.list_trial.proofs.try_new.Goals as goal
 pub returns : goal.returns
 returns g c =
     let w = g.O.ArrowNativeType.WIDTH in
-    let ledger = accounts_of c.args.ledger.now in
+    let ledger = c.args.ledger.now in
     let b = c.args.body.now in
     let count = c.args.count in
     let nulls = c.args.nulls in
@@ -28,7 +27,7 @@ returns g c =
     let own = own_reply ledger b (bytes_end place (w * count)) nulls spans in
     let handle : GenericListArray g.row.O.Denot g.row.C.Denot = record { place = place; slots = new_slots (count - 1) nulls; field = c.args.field; child = child; kind = record {} } in
     let rest : Result ℕ Stop → Result (GenericListArray g.row.O.Denot g.row.C.Denot) Stop = λ n. and_then (offsets_reply (offset_of w place b) count size) (and_then (marks_reply nulls (count - 1)) (and_then (field_reply c.args.field n form (layer_reply form (8 + w / 8))) (Ok handle))) in
-    let a = c.tried.ensures ∙ and_then_lem own _ _ (λ h. ap rest
+    let a = c.tried.ensures.answers ∙ and_then_lem own _ _ (λ h. ap rest
     (count_taken size (g.C.Array.absent_need child) (λ d j. is_absent (g.C.Array.entry child d j)) spans b
     (g.met.C.Array.absent_needs child) (λ d e u i l. ap is_absent (g.met.C.Array.entry_alike child d e u i l)) (own_taken ledger b (bytes_end place (w * count)) nulls spans h).1.1)) in
     record {

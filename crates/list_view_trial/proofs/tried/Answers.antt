@@ -1,5 +1,4 @@
 use Rattle.std.proofs.Common.{◌*◌, ◌^◌, ◌<◌, ◌≤◌, arith, rules}
-use Rattle.ledger.specs.Ledger.{accounts_of}
 use Rattle.slots.specs.Trials.{bytes_end, new_slots}
 use Rattle.checks.proofs.Counted.{own_taken, few_words, new_never}
 use Rattle.list_view_trial.specs.Trial.{view_own}
@@ -8,7 +7,7 @@ use Rattle.list_view_trial.proofs.tried.Goals as goal
 pub returns-in_err-slots : goal.returns-in_err-slots
 returns-in_err-slots g c =
     let w = g.O.ArrowNativeType.WIDTH in
-    let ledger = accounts_of c.args.ledger.now in
+    let ledger = c.args.ledger.now in
     let starts = c.args.starts in
     let sizes = c.args.sizes in
     let o = own_taken ledger c.args.body.now (view_own w starts sizes) c.args.nulls (g.C.Array.spans c.args.child) (search rules) in

@@ -1,6 +1,5 @@
 use Rattle.std.proofs.Common.{ℕ, ◌+◌, ◌*◌, ◌/◌, ◌^◌, ◌<◌, ◌≤◌, Ok, Result, sym, ap, ◌∙◌, arith, rules}
 use Rattle.ledger.specs.declared.stop.Stop.{Stop}
-use Rattle.ledger.specs.Ledger.{accounts_of}
 use Rattle.form.specs.Forms.{layer_reply}
 use Rattle.history.specs.Entry.{is_absent}
 use Rattle.history.proofs.Leading.{stop_leads}
@@ -15,7 +14,7 @@ use Rattle.list_view_trial.proofs.try_new.Goals as goal
 pub returns : goal.returns
 returns g c =
     let w = g.O.ArrowNativeType.WIDTH in
-    let ledger = accounts_of c.args.ledger.now in
+    let ledger = c.args.ledger.now in
     let b = c.args.body.now in
     let nulls = c.args.nulls in
     let starts = c.args.starts in
@@ -29,7 +28,7 @@ returns g c =
     let handle : GenericListViewArray g.row.O.Denot g.row.C.Denot = record { starts = starts.place; sizes = sizes.place; slots = new_slots starts.len nulls; field = c.args.field; child = child; kind = record {} } in
     let last : Result ℕ Stop → Result (GenericListViewArray g.row.O.Denot g.row.C.Denot) Stop = λ n. and_then (field_reply c.args.field n form (layer_reply form (10 + w / 8))) (Ok handle) in
     let rest : Result ℕ Stop → Result (GenericListViewArray g.row.O.Denot g.row.C.Denot) Stop = λ n. and_then (marks_reply nulls starts.len) (and_then (sizes_reply starts.len sizes.len) (and_then ends (last n))) in
-    let a = c.tried.ensures ∙ and_then_lem own _ _ (λ h. ap rest
+    let a = c.tried.ensures.answers ∙ and_then_lem own _ _ (λ h. ap rest
     (count_taken size (g.C.Array.absent_need child) (λ d j. is_absent (g.C.Array.entry child d j)) spans b
     (g.met.C.Array.absent_needs child) (λ d e u i l. ap is_absent (g.met.C.Array.entry_alike child d e u i l)) (own_taken ledger b (view_own w starts sizes) nulls spans h).1.1)) in
     record {

@@ -1,4 +1,3 @@
-use Rattle.ledger.specs.Ledger.{accounts_of}
 use Rattle.primitive_array.specs.NumberLaws.{number_leads}
 use Rattle.primitive_array.proofs.try_new.Goals as goal
 
@@ -6,5 +5,5 @@ pub returns : goal.returns
 returns g c =
     record {
       answers = c.tried.ensures;
-      leads = rw c.tried.ensures (number_leads g.T.ArrowPrimitiveType.width g.T.ArrowPrimitiveType.whole (accounts_of c.args.ledger.now) c.args.body.now c.args.place c.args.len c.args.nulls _ _ (λ s h. h));
+      leads = rw c.tried.ensures (number_leads g.T.ArrowPrimitiveType.width g.T.ArrowPrimitiveType.whole c.args.ledger.now c.args.body.now c.args.place c.args.len c.args.nulls _ _ (λ s h. h));
     }

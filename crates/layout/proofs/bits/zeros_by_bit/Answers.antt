@@ -1,9 +1,16 @@
-use Rattle.std.proofs.Common.{rules}
-use Rattle.layout.proofs.Counting.{zeros_none, zeros_more}
+use Rattle.std.proofs.Common.{◌∙◌, not, ◌+◌, rules, arith}
+use borrow.Author.Tests.{tests}
+use Rattle.std.proofs.lemmas.Iterator.{YieldsList-from_range}
+use Rattle.std.proofs.lemmas.Iterator.Consumers.{YieldsList-from_filter, count_from_yields_List}
+use Rattle.layout.specs.Bits.{bit_set}
+use Rattle.layout.proofs.Counting.{zeros_listed}
 use Rattle.layout.proofs.bits.zeros_by_bit.Goals as goal
 
-pub loop-i-init : goal.loop-i-init
-loop-i-init c = search (rules, zeros_none)
-
-pub loop-i-preserved : goal.loop-i-preserved
-loop-i-preserved c = search (rules, zeros_more)
+pub returns-clause-counted : goal.returns-clause-counted
+returns-clause-counted c =
+    let b = c.args.body.now in
+    let at = c.args.at in
+    let n = c.args.n in
+    count_from_yields_List c.filter.result c.count.result c.count.ensures.ran
+    (YieldsList-from_filter _ (λ k. not (bit_set b k)) (YieldsList-from_range at (at + n) n (cc) (omega arith)) c.filter.ensures.closure (λ x r q k. search (rules, tests)))
+    ∙ zeros_listed b at n

@@ -1,6 +1,5 @@
 use Rattle.std.proofs.Common.{◌≡◌, ◌*◌, ◌≤◌, refl}
 use Rattle.std.proofs.lemmas.Result.{IfOk-from_err}
-use Rattle.ledger.specs.Ledger.{accounts_of}
 use Rattle.slots.specs.Bounds.{length_limit}
 use Rattle.slots.specs.Trials.{bytes_end, new_slots}
 use Rattle.trails.proofs.Bodies.{taken}
@@ -11,6 +10,6 @@ returns-in_err-whole c = IfOk-from_err c.from_residual-in_err-whole.result _ c.f
 
 pub returns : goal.returns
 returns c =
-    taken (accounts_of c.in_ok-ledger.ledger) c.deref.result.now (bytes_end 0 (2 * c.args.n)) c.args.n c.args.nulls _
+    taken c.in_ok-ledger.ledger c.deref.result.now (bytes_end 0 (2 * c.args.n)) c.args.n c.args.nulls _
     (λ w. (c.args.body ≡ c.args.body) × (w.place ≡ 0) × (w.slots ≡ new_slots c.args.n c.args.nulls) × (c.args.n ≤ length_limit))
     c.in_ok-whole.whole c.in_ok-whole.ensures.answers (λ l. (refl, refl, refl, l))
