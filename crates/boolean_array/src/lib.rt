@@ -164,8 +164,8 @@ impl ArrayAccessor for BooleanArray {
 
     fn value(&self, body: &[u8], i: u64) -> Result<bool, Stop> {
         if i >= self.slots.len {
-            return Err(Stop::new(Reason::IndexPastEnd));
+            return Err(Reason::IndexPastEnd.into());
         }
-        bit(body, self.bit_number(i)).ok_or(Stop::new(Reason::BeyondBytes))
+        bit(body, self.bit_number(i)).ok_or(Reason::BeyondBytes.into())
     }
 }

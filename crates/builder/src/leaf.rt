@@ -24,12 +24,12 @@ pub fn check_leaf(rows: Rows, step: Step, in_range: bool) -> Result<(), Stop>
         Step::Value(_) => {
             check_places(rows, 1)?;
             if !in_range {
-                return Err(Stop::new(Reason::NumberOutOfRange));
+                return Err(Reason::NumberOutOfRange.into());
             }
             Ok(())
         }
         Step::Null => check_places(rows, 1),
         Step::Nulls(n) => check_places(rows, n),
-        Step::Close(_) => Err(Stop::new(Reason::NoSuchStep)),
+        Step::Close(_) => Err(Reason::NoSuchStep.into()),
     }
 }

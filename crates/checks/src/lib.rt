@@ -28,7 +28,7 @@ pub fn check_own<C: Array>(
 {
     check_bytes(ledger, body, own, nulls)?;
     if !child.fits(body) {
-        return Err(Stop::new(Reason::BeyondBytes));
+        return Err(Reason::BeyondBytes.into());
     }
     Ok(())
 }
@@ -42,7 +42,7 @@ pub fn check_absent<C: Array>(body: &[u8], nullable: bool, child: &C) -> Result<
     }
     let absent = child.logical_null_count(body)?;
     if absent != 0 {
-        return Err(Stop::new(Reason::EntryAbsent));
+        return Err(Reason::EntryAbsent.into());
     }
     Ok(())
 }
@@ -52,7 +52,7 @@ pub fn check_form(form: DataType, child: DataType) -> Result<(), Stop>
     ensures { result ≡ same_form form child }
 {
     if !form.same(child) {
-        return Err(Stop::new(Reason::FormDiffers));
+        return Err(Reason::FormDiffers.into());
     }
     Ok(())
 }

@@ -132,14 +132,14 @@ fn check_turn<O: OffsetSizeTrait, C: Array + Copy>(
     ensures { result ≡ turn_tests ledger.now body.now (in_body (offset_spans O.WIDTH a.now.place a.now.slots) body.now) a.now.field.nullable (count_reply (C.Array.size a.now.child) (C.Array.absent_need a.now.child) (λ j. is_absent (C.Array.entry a.now.child body.now j)) body.now) (all_ok (λ i. find_reply a.now.slots.len (list_need O.WIDTH a.now.place a.now.slots) (list_range O.WIDTH a.now.place a.now.slots (C.Array.size a.now.child) body.now) body.now i) a.now.slots.len) }
 {
     if body.len() as u64 != ledger.length() {
-        return Err(Stop::new(Reason::BodyLengthDiffers));
+        return Err(Reason::BodyLengthDiffers.into());
     }
     if !offsets_in(body, a) {
-        return Err(Stop::new(Reason::BeyondBytes));
+        return Err(Reason::BeyondBytes.into());
     }
     check_counted(body, a.field.nullable, &a.child)?;
     if !all_ranges(body, a) {
-        return Err(Stop::new(Reason::NoRange));
+        return Err(Reason::NoRange.into());
     }
     check_absent(body, a.field.nullable, &a.child)
 }
@@ -215,13 +215,13 @@ fn check_fixed<O: OffsetSizeTrait, C: Array + Copy>(
     ensures { result ≡ (fixed_tests ledger.now body.now (all_ok (λ i. find_reply a.now.slots.len (λ j. []) (fixed_range a.now.size (C.Array.size a.now.child)) body.now i) a.now.slots.len) (starts_small O.WIDTH a.now.size a.now.slots.len)) }
 {
     if body.len() as u64 != ledger.length() {
-        return Err(Stop::new(Reason::BodyLengthDiffers));
+        return Err(Reason::BodyLengthDiffers.into());
     }
     if !all_ranges(body, a) {
-        return Err(Stop::new(Reason::NoRange));
+        return Err(Reason::NoRange.into());
     }
     if !starts_small::<O>(a.size, a.slots.len) {
-        return Err(Stop::new(Reason::TooLarge));
+        return Err(Reason::TooLarge.into());
     }
     Ok(())
 }

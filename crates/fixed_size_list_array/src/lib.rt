@@ -184,9 +184,9 @@ impl<C: Array + Copy> ListLikeArray for FixedSizeListArray<C> {
 
     fn element_range(&self, _body: &[u8], i: u64) -> Result<(u64, u64), Stop> {
         if i >= self.slots.len {
-            return Err(Stop::new(Reason::IndexPastEnd));
+            return Err(Reason::IndexPastEnd.into());
         }
-        fixed_range(self.size, self.child.len(), i).ok_or(Stop::new(Reason::NoRange))
+        fixed_range(self.size, self.child.len(), i).ok_or(Reason::NoRange.into())
     }
 }
 

@@ -46,7 +46,7 @@ fn tried<C: Array + Copy>(
 {
     check_own(ledger, body, 0, nulls, &child)?;
     if size < 0 {
-        return Err(Stop::new(Reason::BelowZero));
+        return Err(Reason::BelowZero.into());
     }
     shaped(body, field, size as u32, nulls, child)
 }
@@ -94,7 +94,7 @@ fn fixed_slots(size: u32, entries: u64, nulls: Option<NullBuffer>) -> Result<Slo
     };
     let slots = Slots::new(len, nulls)?;
     if len as u128 * size as u128 != entries as u128 {
-        return Err(Stop::new(Reason::ChildLengthDiffers));
+        return Err(Reason::ChildLengthDiffers.into());
     }
     check_marks(nulls, len)?;
     Ok(slots)
@@ -149,7 +149,7 @@ fn check_under<C: Array + Copy>(
     }
     for i in 0..slots.len {
         if absent_at(body, slots, size, child, i) {
-            return Err(Stop::new(Reason::EntryAbsent));
+            return Err(Reason::EntryAbsent.into());
         }
     }
     Ok(())

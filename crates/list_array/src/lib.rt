@@ -49,8 +49,8 @@ fn range_at<O: OffsetSizeTrait>(
 ) -> Result<(u64, u64), Stop>
     ensures { result ≡ pair_found size (pair_reply O.WIDTH place body.now k) }
 {
-    let (lo, hi) = offset_pair::<O>(body, place, k).ok_or(Stop::new(Reason::BeyondBytes))?;
-    range_in(size, lo, hi).ok_or(Stop::new(Reason::NoRange))
+    let (lo, hi) = offset_pair::<O>(body, place, k).ok_or(Reason::BeyondBytes)?;
+    range_in(size, lo, hi).ok_or(Reason::NoRange.into())
 }
 
 impl<O: OffsetSizeTrait, C: Array + Copy> Array for GenericListArray<O, C> {
@@ -172,7 +172,7 @@ impl<O: OffsetSizeTrait, C: Array + Copy> ListLikeArray for GenericListArray<O, 
 
     fn element_range(&self, body: &[u8], i: u64) -> Result<(u64, u64), Stop> {
         if i >= self.slots.len {
-            return Err(Stop::new(Reason::IndexPastEnd));
+            return Err(Reason::IndexPastEnd.into());
         }
         range_at::<O>(body, self.place, self.slots.first + i, self.child.len())
     }

@@ -89,21 +89,21 @@ fn check_offsets<O: OffsetSizeTrait>(
     ensures { result ≡ offsets_reply (offset_of O.WIDTH place body.now) count size }
 {
     if count == 0 {
-        return Err(Stop::new(Reason::NoOffsets));
+        return Err(Reason::NoOffsets.into());
     }
     let mut last = offset_in::<O>(body, place, 0);
     if last < 0 {
-        return Err(Stop::new(Reason::BelowZero));
+        return Err(Reason::BelowZero.into());
     }
     for k in 1..count {
         let next = offset_in::<O>(body, place, k);
         if next < last {
-            return Err(Stop::new(Reason::OffsetFalls));
+            return Err(Reason::OffsetFalls.into());
         }
         last = next;
     }
     if last as u64 > size {
-        return Err(Stop::new(Reason::BeyondChild));
+        return Err(Reason::BeyondChild.into());
     }
     Ok(())
 }

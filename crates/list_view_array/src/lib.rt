@@ -48,9 +48,9 @@ fn view_at<O: OffsetSizeTrait>(
 ) -> Result<(u64, u64), Stop>
     ensures { result ≡ view_found size (view_reply O.WIDTH starts sizes body.now k) }
 {
-    let start = O::read_nth(body, starts, k).ok_or(Stop::new(Reason::BeyondBytes))?;
-    let count = O::read_nth(body, sizes, k).ok_or(Stop::new(Reason::BeyondBytes))?;
-    view_in(size, start, count).ok_or(Stop::new(Reason::NoRange))
+    let start = O::read_nth(body, starts, k).ok_or(Reason::BeyondBytes)?;
+    let count = O::read_nth(body, sizes, k).ok_or(Reason::BeyondBytes)?;
+    view_in(size, start, count).ok_or(Reason::NoRange.into())
 }
 
 impl<O: OffsetSizeTrait, C: Array + Copy> Array for GenericListViewArray<O, C> {
@@ -173,7 +173,7 @@ impl<O: OffsetSizeTrait, C: Array + Copy> ListLikeArray for GenericListViewArray
 
     fn element_range(&self, body: &[u8], i: u64) -> Result<(u64, u64), Stop> {
         if i >= self.slots.len {
-            return Err(Stop::new(Reason::IndexPastEnd));
+            return Err(Reason::IndexPastEnd.into());
         }
         view_at::<O>(
             body,

@@ -88,7 +88,7 @@ fn check_sizes(starts: u64, sizes: u64) -> Result<(), Stop>
     ensures { result ≡ sizes_reply starts sizes }
 {
     if sizes != starts {
-        return Err(Stop::new(Reason::SizeCountDiffers));
+        return Err(Reason::SizeCountDiffers.into());
     }
     Ok(())
 }
@@ -111,10 +111,10 @@ fn check_end(size: u64, end: u128) -> Result<(), Stop>
     ensures { result ≡ end_reply size end }
 {
     if end > u64::MAX as u128 {
-        return Err(Stop::new(Reason::RangeOverflows));
+        return Err(Reason::RangeOverflows.into());
     }
     if end > size as u128 {
-        return Err(Stop::new(Reason::BeyondChild));
+        return Err(Reason::BeyondChild.into());
     }
     Ok(())
 }

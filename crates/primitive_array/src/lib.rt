@@ -178,8 +178,8 @@ impl<T: ArrowPrimitiveType> ArrayAccessor for PrimitiveArray<T> {
 
     fn value(&self, body: &[u8], i: u64) -> Result<i64, Stop> {
         if i >= self.slots.len {
-            return Err(Stop::new(Reason::IndexPastEnd));
+            return Err(Reason::IndexPastEnd.into());
         }
-        T::read_nth(body, self.place, self.slots.first + i).ok_or(Stop::new(Reason::BeyondBytes))
+        T::read_nth(body, self.place, self.slots.first + i).ok_or(Reason::BeyondBytes.into())
     }
 }

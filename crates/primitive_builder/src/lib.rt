@@ -114,15 +114,15 @@ impl<T: ArrowPrimitiveType> ArrayBuilder for PrimitiveBuilder<T> {
 
     fn take(&mut self, body: &mut [u8], depth: u32, step: Step) -> Result<(), Stop> {
         if body.len() as u64 != self.length {
-            return Err(Stop::new(Reason::BodyLengthDiffers));
+            return Err(Reason::BodyLengthDiffers.into());
         }
         if depth != 0 {
-            return Err(Stop::new(Reason::NoSuchStep));
+            return Err(Reason::NoSuchStep.into());
         }
         let (mark, v) = leaf_row(step);
         let number = T::Native::from_i64(v);
         check_leaf(self.rows, step, number.is_some())?;
-        let number = number.ok_or(Stop::new(Reason::NumberOutOfRange))?;
+        let number = number.ok_or(Reason::NumberOutOfRange)?;
         let n = step.slots();
         put_rows::<T>(body, self.rows, self.numbers, n, mark, number);
         self.rows.count += n;
@@ -131,7 +131,7 @@ impl<T: ArrowPrimitiveType> ArrayBuilder for PrimitiveBuilder<T> {
 
     fn finish_cloned(&self, body: &[u8]) -> Result<PrimitiveArray<T>, Stop> {
         if body.len() as u64 != self.length {
-            return Err(Stop::new(Reason::BodyLengthDiffers));
+            return Err(Reason::BodyLengthDiffers.into());
         }
         let nulls = nulls_at(body, self.rows.marks, self.rows.count);
         let slots = Slots::new(self.rows.count, nulls)?;

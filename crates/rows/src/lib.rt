@@ -60,7 +60,7 @@ pub fn check_places(rows: Rows, n: u64) -> Result<(), Stop>
     ensures { result ≡ room_reply rows.count rows.room n }
 {
     if n != 0 && (n > rows.room || rows.count > rows.room - n) {
-        return Err(Stop::new(Reason::NoPlaceLeft));
+        return Err(Reason::NoPlaceLeft.into());
     }
     Ok(())
 }
