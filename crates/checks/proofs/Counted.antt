@@ -1,4 +1,4 @@
-use Rattle.std.proofs.Common.{◌≡◌, ℕ, ◌+◌, ◌*◌, ◌^◌, ◌<◌, ◌≤◌, Bool, true, false, cond, eqb, leb, ◌⊎◌, List, [], ◌++◌, length, Ok, Err, Option, Result, refl, inl, inr, ⊎_elim, arith, le-leb, leb-true, MatchResult}
+use Rattle.std.proofs.Common.{◌≡◌, ℕ, ◌+◌, ◌*◌, ◌^◌, ◌<◌, ◌≤◌, Bool, true, false, cond, eqb, leb, ◌⊎◌, List, [], ◌++◌, length, Ok, Err, Option, Result, refl, ap, inl, inr, ⊎_elim, arith, le-leb, leb-true, MatchResult}
 use native.Mathlib.Decide.{dec_le}
 use Rattle.ledger.specs.declared.stop.Stop.{Stop}
 use Rattle.ledger.specs.Stops.{stopped}
@@ -12,13 +12,15 @@ use Rattle.ledger.specs.Ledger.{Accounts}
 use Rattle.slots.specs.declared.null_buffer.NullBuffer.{NullBuffer}
 use Rattle.slots.specs.declared.slots.Slots.{Slots}
 use Rattle.slots.specs.Slots.{slot_spans}
+use Rattle.array.specs.declared.array.Array.{Ghosts}
 use Rattle.array.specs.Lists.{list_spans}
+use Rattle.history.specs.Entry.{is_absent}
 use Rattle.slots.specs.Bounds.{length_limit}
-use Rattle.slots.specs.Trials.{and_then, bytes_end, marks_bytes_end, length_reply}
-use Rattle.checks.specs.Checks.{child_reply, own_reply}
+use Rattle.slots.specs.Trials.{and_then, bytes_end, marks_bytes_end}
+use Rattle.checks.specs.Checks.{own_reply, absents, absent_count}
 
 -- where the meaning lies in the body, the count is taken
-pub count_taken : (size : ℕ) (need : ℕ → List Span) (f : List ℕ → ℕ → Bool) (ss : List Span) (b : List ℕ)
+count_taken : (size : ℕ) (need : ℕ → List Span) (f : List ℕ → ℕ → Bool) (ss : List Span) (b : List ℕ)
     → ((i : ℕ) → i < size → Needed (need i) (λ c. f c i)) → ((c d : List ℕ) → Alike ss c d → (i : ℕ) → i < size → f c i ≡ f d i)
     → in_body ss b ≡ true → count_reply size need (f b) b ≡ Ok (counts (f b) size)
 count_taken size need f ss b h e t =
@@ -26,13 +28,13 @@ count_taken size need f ss b h e t =
     let r = reach_sub (each need size) ss (each_in need ss size (λ i p k q. sway_in (λ c. f c i) ss k ((h i p).none_idle k q) (λ c d u. e c d u i p))) in
     rw (le-leb (reach_of (each need size)) (8 * length b) (omega arith)) refl
 
--- a child that was taken lies in the body
-pub child_in : (ss : List Span) (b : List ℕ) → child_reply ss b ≡ Ok tt → in_body ss b ≡ true
-child_in ss b h = by (in_body ss b) h
-  where
-    by : (t : Bool) → ◌≡◌ {A = Result (Unit {0}) Stop} (cond t (Ok tt) (Err (stopped BeyondBytes))) (Ok tt) → t ≡ true
-    by true e = refl
-    by false e = let z : ◌≡◌ {A = ℕ} 0 1 = cc in absurd (omega arith)
+-- the same of a child's absent entries, by its laws
+pub absents_taken : {C : Type 0} (array : Ghosts C) (child : C) (b : List ℕ)
+    → ((i : ℕ) → i < array.size child → Needed (array.absent_need child i) (λ c. is_absent (array.entry child c i)))
+    → ((c d : List ℕ) → Alike (array.spans child) c d → (i : ℕ) → i < array.size child → array.entry child c i ≡ array.entry child d i)
+    → in_body (array.spans child) b ≡ true → absent_count array child b ≡ Ok (absents (array.size child) (array.entry child b))
+absents_taken array child b needs alike t =
+    count_taken (array.size child) (array.absent_need child) (λ c j. is_absent (array.entry child c j)) (array.spans child) b needs (λ c d h i l. ap is_absent (alike c d h i l)) t
 
 -- what the first tests of a list's trial say where they are passed
 pub own_taken : (g : Accounts) (b : List ℕ) (own : ℕ) (nulls : Option NullBuffer) (ss : List Span) → Ok tt ≡ own_reply g b own nulls ss
@@ -66,13 +68,6 @@ few_words w place count loaded (inr e) h l = eight (rw e at h)
       | no z ↦ (let t : eqb (8 * count) 0 ≡ false = grind arith in let m : place + 8 * count ≤ loaded = rw t at k in omega arith)
     ]
 
--- slots of such a length are always made
-pub new_never : (len : ℕ) (s : Slots) (e : Stop) → len ≤ length_limit → Err e ≡ and_then (length_reply len) (Ok s) → ⊥
-new_never len s e l h = no (rw (le-leb len length_limit l) at h)
-  where
-    no : Err e ≡ Ok s → ⊥
-    no q = let z : ◌≡◌ {A = ℕ} 0 1 = cc in omega arith
-
 -- a reply of four tests and a value
 pub four_cases : {X : Type 0} (x y z u : Result (Unit {0}) Stop) (v : X) (r : Result X Stop) (P : X → Type 0) (Q : Type 0)
     → r ≡ and_then x (and_then y (and_then z (and_then u (Ok v))))
@@ -82,11 +77,6 @@ four_cases (Ok i) (Ok j) (Ok k) (Err u) a r P Q e f q = rw e q
 four_cases (Ok i) (Ok j) (Err z) u a r P Q e f q = rw e q
 four_cases (Ok i) (Err y) z u a r P Q e f q = rw e q
 four_cases (Err x) y z u a r P Q e f q = rw e q
-
--- what follows a test matters only where it is passed
-pub and_then_lem : {X : Type 0} (x : Result (Unit {0}) Stop) (y z : Result X Stop) → (Ok tt ≡ x → y ≡ z) → and_then x y ≡ and_then x z
-and_then_lem (Ok i) y z h = h refl
-and_then_lem (Err e) y z h = refl
 
 -- the bits of a list whose words and marks are loaded are loaded or its child's
 pub list_loaded : (s : Slots) (words child : List Span) (loaded : ℕ)

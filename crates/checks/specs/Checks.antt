@@ -10,7 +10,9 @@ use Rattle.form.specs.declared.data_type.Field.{Field}
 use Rattle.form.specs.Forms.{code_in}
 use Rattle.history.specs.Entry.{Entry, is_absent}
 use Rattle.slots.specs.declared.null_buffer.NullBuffer.{NullBuffer}
+use Rattle.slots.specs.Replies.{count_reply}
 use Rattle.slots.specs.Trials.{and_then, bytes_reply}
+use Rattle.array.specs.declared.array.Array.{Ghosts}
 
 -- the bits that a child rests on lie in the body
 abbrev pub child_reply : List Span → List ℕ → Result (Unit {0}) Stop
@@ -23,6 +25,10 @@ own_reply g b own nulls child = and_then (bytes_reply g b own nulls) (child_repl
 -- how many of a child's entries are absent
 abbrev pub absents : ℕ → (ℕ → Entry) → ℕ
 absents size f = counts (λ j. is_absent (f j)) size
+
+-- how many of a child's entries are absent on a body, by the child's own members
+abbrev pub absent_count : {C : Type 0} → Ghosts C → C → List ℕ → Result ℕ Stop
+absent_count array child b = count_reply (array.size child) (array.absent_need child) (λ j. is_absent (array.entry child b j)) b
 
 -- where a field is not nullable, nothing is absent
 abbrev pub absent_reply : Bool → Result ℕ Stop → Result (Unit {0}) Stop

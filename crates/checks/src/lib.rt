@@ -1,11 +1,10 @@
 #![tactic(auto)]
 
-ghost use Rattle.std.specs.Prelude.{◌≡◌, ℕ};
+ghost use Rattle.std.specs.Prelude.{◌≡◌, true, Ok};
+ghost use Rattle.layout.specs.Spans.{in_body};
 ghost use Rattle.form.specs.Forms.{layer_reply};
-ghost use Rattle.history.specs.Entry.{is_absent};
 ghost use Rattle.ledger.specs.Ledger.{Kept};
-ghost use Rattle.slots.specs.Replies.{count_reply};
-ghost use Rattle.checks.specs.Checks.{child_reply, own_reply, absent_reply, same_form, field_reply};
+ghost use Rattle.checks.specs.Checks.{child_reply, own_reply, absents, absent_count, absent_reply, same_form, field_reply};
 
 use array::array::Array;
 use form::data_type::{DataType, Field};
@@ -35,13 +34,9 @@ pub fn check_own<C: Array>(
 
 // Stops where the field is not nullable and an entry of the child is absent.
 pub fn check_absent<C: Array>(body: &[u8], nullable: bool, child: &C) -> Result<(), Stop>
-    ensures { result ≡ absent_reply nullable (count_reply (C.Array.size child.now) (C.Array.absent_need child.now) (λ j. is_absent (C.Array.entry child.now body.now j)) body.now) }
+    ensures { result ≡ absent_reply nullable (absent_count C.Array child.now body.now) }
 {
-    if nullable {
-        return Ok(());
-    }
-    let absent = child.logical_null_count(body)?;
-    if absent != 0 {
+    if !nullable && child.logical_null_count(body)? != 0 {
         return Err(Reason::EntryAbsent.into());
     }
     Ok(())
@@ -51,7 +46,7 @@ pub fn check_absent<C: Array>(body: &[u8], nullable: bool, child: &C) -> Result<
 pub fn check_form(form: DataType, child: DataType) -> Result<(), Stop>
     ensures { result ≡ same_form form child }
 {
-    if !form.same(child) {
+    if form != child {
         return Err(Reason::FormDiffers.into());
     }
     Ok(())
@@ -59,11 +54,11 @@ pub fn check_form(form: DataType, child: DataType) -> Result<(), Stop>
 
 // The last tests of a list's or a view's trial.
 pub fn check_field<C: Array>(body: &[u8], field: Field, child: &C, digit: u8) -> Result<(), Stop>
-    ensures { result ≡ field_reply field (count_reply (C.Array.size child.now) (C.Array.absent_need child.now) (λ j. is_absent (C.Array.entry child.now body.now j)) body.now) (C.Array.form child.now) (layer_reply (C.Array.form child.now) digit) }
+    ensures answers { result ≡ field_reply field (absent_count C.Array child.now body.now) (C.Array.form child.now) (layer_reply (C.Array.form child.now) digit) }
+    ensures counted { in_body (C.Array.spans child.now) body.now ≡ true → result ≡ field_reply field (Ok (absents (C.Array.size child.now) (C.Array.entry child.now body.now))) (C.Array.form child.now) (layer_reply (C.Array.form child.now) digit) }
 {
     check_absent(body, field.nullable, child)?;
     let form = child.data_type();
     check_form(field.form, form)?;
-    let _ = form.layer(digit)?;
-    Ok(())
+    form.layer(digit).map(|_| ())
 }

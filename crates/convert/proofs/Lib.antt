@@ -3,3 +3,4 @@ pub mod Turning
 pub mod AllTaken
 pub mod ListTurning
 pub mod FixedTurning
+pub mod Viewing

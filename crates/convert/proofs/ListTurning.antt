@@ -1,9 +1,9 @@
 use Rattle.std.proofs.Common.{◌≡◌, ℕ, suc, ◌+◌, ◌-◌, ◌*◌, ◌^◌, ◌<◌, ◌≤◌, Bool, true, false, cond, eqb, ltb, leb, ◌⊎◌, List, length, ℤ, pos, negsuc, Some, None, Ok, Err, Option, Result, sym, refl, ap, inl, ⊎_elim, mul-add, arith, ltb-true}
 use Rattle.std.proofs.lemmas.Nat.{mul-le}
 use Rattle.ledger.specs.declared.stop.Stop.{Stop}
-use Rattle.ledger.specs.declared.stop.Reason.TheVariants.{BodyLengthDiffers, BeyondBytes, NoRange, NoPlaceLeft}
+use Rattle.ledger.specs.declared.stop.Reason.TheVariants.{BodyLengthDiffers, BeyondBytes, NoRange}
 use Rattle.ledger.specs.Stops.{stopped}
-use Rattle.ledger.specs.Ledger.{Accounts, aligned, second, have_places, reservation2}
+use Rattle.ledger.specs.Ledger.{Accounts, aligned, second}
 use Rattle.layout.specs.Words.{word_at, signed_of}
 use Rattle.layout.specs.Spans.{Span, Within, Alike}
 use Rattle.history.specs.Entry.{Entry}
@@ -102,11 +102,7 @@ list_turns w known place s cs f child law b g whole fits found below =
     there : (i : ℕ) → i < s.len → (r : Range) × (Ok r ≡ find_reply s.len (list_need w place s) (list_range w place s cs b) b i)
     there i l = all_there (λ j. find_reply s.len (list_need w place s) (list_range w place s cs b) b j) s.len found i l
 
--- what a reply that is taken says of its tests
-pub and_taken : {X : Type 0} (x : Result (Unit {0}) Stop) (y : Result X Stop) (v : X) → Ok v ≡ and_then x y → (Ok tt ≡ x) × (Ok v ≡ y)
-and_taken (Ok u) y v h = (refl, h)
-and_taken (Err e) y v h = let z : ◌≡◌ {A = ℕ} 0 1 = cc in absurd (omega arith)
-
+-- what tests that are passed say
 pub turn_taken : (g : Accounts) (b : List ℕ) (inside nullable : Bool) (count : Result ℕ Stop) (found : Bool) → Ok tt ≡ turn_tests g b inside nullable count found → (eqb (length b) g.length ≡ true) × (found ≡ true)
 turn_taken g b inside nullable count found h = by (eqb (length b) g.length) inside (cond nullable (Ok tt) (taken count)) found h
   where
@@ -117,10 +113,3 @@ turn_taken g b inside nullable count found h = by (eqb (length b) g.length) insi
     by true true (Err i) x e = let z : ◌≡◌ {A = ℕ} 0 1 = cc in absurd (omega arith)
     by true false v x e = let z : ◌≡◌ {A = ℕ} 0 1 = cc in absurd (omega arith)
     by false u v x e = let z : ◌≡◌ {A = ℕ} 0 1 = cc in absurd (omega arith)
-
-pub places_taken : (g : Accounts) (n : ℕ) (p : ℕ × ℕ) → Ok p ≡ reservation2 g n n → (have_places g n n ≡ true) × (p ≡ (aligned g.end, second g n))
-places_taken g n p h = by (have_places g n n) refl h
-  where
-    by : (t : Bool) → have_places g n n ≡ t → Ok p ≡ cond t (Ok (aligned g.end, second g n)) (Err (stopped NoPlaceLeft)) → (have_places g n n ≡ true) × (p ≡ (aligned g.end, second g n))
-    by true q e = (q, cc)
-    by false q e = let z : ◌≡◌ {A = ℕ} 0 1 = cc in absurd (omega arith)

@@ -1,5 +1,6 @@
-use Rattle.std.proofs.Common.{◌≡◌, ℕ, zero, suc, ◌+◌, ◌*◌, ◌%◌, ◌^◌, ◌<◌, ◌≤◌, ◌⊎◌, List, length, Option, Result, refl, ap, ◌∙◌, inl, inr, ⊎_elim, mul-add, add-one, arith, le-leb}
+use Rattle.std.proofs.Common.{◌≡◌, ℕ, zero, suc, ◌+◌, ◌-◌, ◌*◌, ◌%◌, ◌^◌, ◌<◌, ◌≤◌, ◌⊎◌, List, length, Ok, Err, Option, Result, refl, ap, ◌∙◌, inl, inr, ⊎_elim, mul-add, add-one, arith, le-leb}
 use native.Mathlib.Decide.{ℕ_discrete}
+use Rattle.std.specs.Result.{result_unwrap_or}
 use Rattle.std.proofs.lemmas.Nat.{mul-le}
 use Rattle.ledger.specs.declared.stop.Stop.{Stop}
 use Rattle.layout.specs.Bits.{bit_at}
@@ -116,6 +117,11 @@ pub views_more : (w : ℕ) (range : List ℕ → ℕ → Result Range Stop) (sta
     → offset_put w (offset_put w c starts n (start_of (range c n))) sizes n (size_of (range c n)) ≡ views_put w range starts sizes b (n + 1)
 unfolding views_put
 views_more w range starts sizes b c n e = rw (add-one n, e) refl
+
+-- a range that is there, or 0 and 0, has the start and the size that are written
+pub pair_shows : (r : Result Range Stop) (p : ℕ × ℕ) → p ≡ result_unwrap_or r (0, 0) → (p.0 ≡ start_of r) × (p.1 - p.0 ≡ size_of r)
+pair_shows (Ok x) p e = rw e (refl, refl)
+pair_shows (Err s) p e = rw e (refl, refl)
 
 -- the law, from what the array's own laws say of its ranges
 pub views_show : (w : ℕ) (known : (w ≡ 4) ⊎ (w ≡ 8)) (size : ℕ) (need : ℕ → List Span) (range : List ℕ → ℕ → Option Range) (starts sizes : ℕ) (b : List ℕ)

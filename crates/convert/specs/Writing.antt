@@ -7,6 +7,8 @@ use Rattle.ledger.specs.declared.stop.Stop.{Stop}
 use Rattle.layout.specs.Words.{written, word_at}
 use Rattle.slots.specs.declared.slots.Slots.{Slots}
 use Rattle.slots.specs.Bounds.{length_limit}
+use Rattle.array.specs.declared.array.Array.{Ghosts}
+use Rattle.array.specs.declared.array.ListLikeArray.{Ghosts as ListGhosts}
 use Rattle.array.specs.Windows.{Range}
 use Rattle.array.specs.Offsets.{largest_of}
 
@@ -18,6 +20,10 @@ start_of (Err e) = 0
 abbrev pub size_of : Result Range Stop → ℕ
 size_of (Ok r) = r.1 - r.0
 size_of (Err e) = 0
+
+-- what a list-like array replies when it is asked for a range, on each body, by its own members
+abbrev pub ranges_of : {L C : Type 0} → Ghosts L → ListGhosts L C → L → List ℕ → ℕ → Result Range Stop
+ranges_of array list a = λ b i. find_reply (array.size a) (list.range_need a) (list.range a b) b i
 
 -- an offset of w bytes at number k after a place
 abbrev pub offset_put : ℕ → List ℕ → ℕ → ℕ → ℕ → List ℕ

@@ -1,13 +1,12 @@
-use Rattle.std.proofs.Common.{◌≡◌, ℕ, zero, suc, ◌+◌, ◌*◌, ◌<◌, ◌≤◌, Bool, true, false, cond, List, length, Ok, Err, Result, refl, ap, add-mul, add-one, arith, le-leb, leb-true}
+use Rattle.std.proofs.Common.{◌≡◌, ℕ, zero, suc, ◌+◌, ◌*◌, ◌<◌, Bool, true, false, cond, List, length, sym, refl, ap, zero-add, arith, le-leb, leb-true}
+use Rattle.std.specs.Bool.{MatchBool}
+use Rattle.std.specs.List.{AllWithin, HoldsAt, range_with_len}
+use Rattle.std.proofs.lemmas.List.FromFn.{length-range_with_len, get_or-range_with_len}
 use native.Mathlib.Decide.{ℕ_discrete}
-use Rattle.std.proofs.lemmas.Nat.{mul-le}
-use Rattle.ledger.specs.declared.stop.Stop.{Stop}
 use Rattle.layout.specs.Spans.{Span, Within, reach_of, in_body}
 use Rattle.layout.specs.Needs.{counts}
 use Rattle.layout.proofs.SpanLaws.{reach_sub}
 use Rattle.history.specs.Entry.{Entry, is_absent}
-use Rattle.slots.specs.Replies.{slice_reply}
-use Rattle.slots.specs.Trials.{and_then}
 use Rattle.fixed_size_list_trial.specs.Trial.{absent_in, absent_under}
 
 counts_same : (p q : ℕ → Bool) (n : ℕ) → ((j : ℕ) → j < n → p j ≡ q j) → counts p n ≡ counts q n
@@ -26,22 +25,12 @@ part_in ss ts b h t =
     let r = reach_sub ts ss h in
     le-leb (reach_of ts) (8 * length b) (omega arith)
 
--- a slice that was taken
-pub slice_taken : {X : Type 0} (size start n : ℕ) (x y : X) → start + n ≤ size → Ok y ≡ slice_reply size start n x → y ≡ x
-slice_taken {X = X} size start n x y l h = same (rw (le-leb (start + n) size l) at h)
-  where
-    same : ◌≡◌ {A = Result X Stop} (Ok y) (Ok x) → y ≡ x
-    same e = cc
-
-pub under_none : (mark : ℕ → Bool) (f : ℕ → Entry) (size : ℕ) → absent_under mark f size 0 ≡ false
+under_all : (mark : ℕ → Bool) (f : ℕ → Entry) (size n : ℕ) → ((i : ℕ) → i < n → cond (mark i) (absent_in f (i * size) size) false ≡ false) → absent_under mark f size n ≡ false
 unfolding absent_under
-under_none mark f size = refl
+under_all mark f size zero h = refl
+under_all mark f size (suc n) h = rw (under_all mark f size n (λ i l. h i (omega arith))) (h n (omega arith))
 
-pub under_more : (mark : ℕ → Bool) (f : ℕ → Entry) (size i : ℕ) → absent_under mark f size i ≡ false → cond (mark i) (absent_in f (i * size) size) false ≡ false → absent_under mark f size (i + 1) ≡ false
-unfolding absent_under
-under_more mark f size i h e = rw (add-one i, h) e
-
-pub under_found : (mark : ℕ → Bool) (f : ℕ → Entry) (size i n : ℕ) → i < n → cond (mark i) (absent_in f (i * size) size) false ≡ true → absent_under mark f size n ≡ true
+under_found : (mark : ℕ → Bool) (f : ℕ → Entry) (size i n : ℕ) → i < n → cond (mark i) (absent_in f (i * size) size) false ≡ true → absent_under mark f size n ≡ true
 unfolding absent_under
 under_found mark f size i zero l e = absurd (omega arith)
 under_found mark f size i (suc n) l e =
@@ -54,14 +43,12 @@ under_found mark f size i (suc n) l e =
     last true d = refl
     last false d = d
 
--- the entries of a slot lie in the child
-pub slot_in : (len size entries i : ℕ) → i < len → len * size ≤ entries → i * size + size ≤ entries
-slot_in len size entries i l h =
-    let m = mul-le (i + 1) size len size (omega arith) (omega arith) in
-    let e = add-mul i 1 size in
-    omega arith
-
--- a test that stops decides, whatever follows
-pub one_stop : {X Y : Type 0} (x : Result (Unit {0}) Stop) (v : X) (r : Result Y Stop) (e : Stop) → Err e ≡ and_then x (Ok v) → Err e ≡ and_then x r
-one_stop (Ok i) v r e h = let z : ◌≡◌ {A = ℕ} 0 1 = cc in absurd (omega arith)
-one_stop (Err f) v r e h = let q : e ≡ f = cc in ap Err q
+-- the answer of a search through a range from 0 up
+pub under_by : (mark : ℕ → Bool) (f : ℕ → Entry) (size n : ℕ) (r : Bool)
+    → MatchBool r ((k : ℕ) × (k < length (range_with_len 0 n)) × HoldsAt (λ i. cond (mark i) (absent_in f (i * size) size) false ≡ true) (range_with_len 0 n) k) (AllWithin (λ i. cond (mark i) (absent_in f (i * size) size) false ≡ false) (range_with_len 0 n) 0 (length (range_with_len 0 n)))
+    → r ≡ absent_under mark f size n
+under_by mark f size n true h =
+    let z = length-range_with_len 0 n in
+    let l : h.0 < n = let k = h.1 in omega arith in
+    sym (under_found mark f size h.0 n l (rw (get_or-range_with_len 0 n h.0 0 l, zero-add h.0) at (h.2 0)))
+under_by mark f size n false h = sym (under_all mark f size n (λ i l. let z = length-range_with_len 0 n in rw (get_or-range_with_len 0 n i 0 l, zero-add i) at (h i 0 (omega arith) (omega arith))))

@@ -1,5 +1,5 @@
-use Rattle.std.specs.Prelude.{ℕ, zero, suc, ◌+◌, ◌*◌, ◌/◌, Bool, true, false, cond, not, List, ℤ, pos, Some, None, Ok, Err, Option, Result, ◌==◌, int_lt, unsigned_abs}
-use Rattle.layout.specs.Spans.{Span}
+use Rattle.std.specs.Prelude.{◌≡◌, ℕ, zero, suc, ◌+◌, ◌*◌, ◌/◌, Bool, true, false, cond, not, List, ℤ, pos, Some, None, Ok, Err, Option, Result, ◌==◌, int_lt, unsigned_abs}
+use Rattle.layout.specs.Spans.{Span, in_body}
 use Rattle.layout.specs.Needs.{counts}
 use Rattle.ledger.specs.declared.stop.Stop.{Stop}
 use Rattle.ledger.specs.declared.stop.Reason.TheVariants.{BelowZero, ChildLengthDiffers, EntryAbsent}
@@ -10,7 +10,11 @@ use Rattle.form.specs.declared.data_type.Field.{Field}
 use Rattle.form.specs.Forms.{fixed_reply}
 use Rattle.history.specs.Entry.{Entry, is_absent}
 use Rattle.slots.specs.declared.null_buffer.NullBuffer.{NullBuffer}
-use Rattle.slots.specs.Trials.{and_then, length_reply, marks_reply}
+use Rattle.slots.specs.declared.slots.Slots.{Slots}
+use Rattle.slots.specs.Slots.{slot_mark, slot_spans}
+use Rattle.array.specs.declared.array.Array.{Ghosts}
+use Rattle.fixed_size_list_array.specs.declared.fixed_size_list_array.FixedSizeListArray.{FixedSizeListArray}
+use Rattle.slots.specs.Trials.{and_then, length_reply, marks_reply, new_slots}
 use Rattle.checks.specs.Checks.{own_reply, same_form, taken}
 
 -- how many marks there are
@@ -35,6 +39,10 @@ abbrev pub shape_reply : ℕ → ℕ → Option NullBuffer → Result (Unit {0})
 shape_reply size entries nulls =
     and_then (length_reply (fixed_slots size entries nulls))
     (and_then (whole_reply (fixed_slots size entries nulls) size entries) (marks_reply nulls (fixed_slots size entries nulls)))
+
+-- the marks of the slots and the bits that a child rests on lie in the body
+abbrev pub BothInside : Slots → List Span → List ℕ → Type 0
+BothInside s child b = (in_body (slot_spans s) b ≡ true) × (in_body child b ≡ true)
 
 -- whether one of the n entries from an entry on is absent
 abbrev pub absent_in : (ℕ → Entry) → ℕ → ℕ → Bool
@@ -61,3 +69,27 @@ shaped_trial field size nulls entries absent form h =
 abbrev pub fixed_trial : {X : Type 0} → Accounts → List ℕ → Field → ℤ → Option NullBuffer → ℕ → List Span → Bool → DataType → X → Result X Stop
 fixed_trial g b field size nulls entries child absent form h =
     and_then (own_reply g b 0 nulls child) (and_then (size_reply size) (shaped_trial field (unsigned_abs size) nulls entries absent form h))
+
+-- the slots that a trial makes over a child of so many entries
+abbrev pub slots_made : ℕ → ℕ → Option NullBuffer → Slots
+slots_made size entries nulls = new_slots (fixed_slots size entries nulls) nulls
+
+-- the handle that a trial makes
+abbrev pub fixed_made : {C : Type 0} → Ghosts C → Field → ℕ → Option NullBuffer → C → FixedSizeListArray C
+fixed_made array field size nulls child =
+    record { slots = slots_made size (array.size child) nulls; size = size; field = field; child = child }
+
+-- whether an entry of the child is absent under a present one of these slots
+abbrev pub child_absent_under : {C : Type 0} → Ghosts C → List ℕ → ℕ → Option NullBuffer → C → Bool
+child_absent_under array b size nulls child =
+    absent_under (slot_mark (slots_made size (array.size child) nulls) b) (array.entry child b) size (fixed_slots size (array.size child) nulls)
+
+-- the tests after the size's own, over a child by its own members, with the handle that is made
+abbrev pub shaped_list_trial : {C : Type 0} → Ghosts C → List ℕ → Field → ℕ → Option NullBuffer → C → Result (FixedSizeListArray C) Stop
+shaped_list_trial array b field size nulls child =
+    shaped_trial field size nulls (array.size child) (child_absent_under array b size nulls child) (array.form child) (fixed_made array field size nulls child)
+
+-- the same of the whole trial
+abbrev pub fixed_list_trial : {C : Type 0} → Ghosts C → Accounts → List ℕ → Field → ℤ → Option NullBuffer → C → Result (FixedSizeListArray C) Stop
+fixed_list_trial array g b field size nulls child =
+    fixed_trial g b field size nulls (array.size child) (array.spans child) (child_absent_under array b (unsigned_abs size) nulls child) (array.form child) (fixed_made array field (unsigned_abs size) nulls child)

@@ -4,10 +4,8 @@ ghost use Rattle.std.specs.Prelude.{◌≡◌, ℕ, ◌+◌, ◌*◌, ◌<◌, �
 ghost use Rattle.history.specs.Calls.{TrialLeads, StopLeads};
 ghost use Rattle.layout.specs.Spans.{in_body};
 ghost use Rattle.slots.specs.Slots.{slot_mark, slot_spans};
-ghost use Rattle.slots.specs.Trials.{and_then, marks_bytes_end, new_slots};
-ghost use Rattle.array.specs.Lists.{list_seen};
-ghost use Rattle.fixed_size_list_array.specs.Fixed.{fixed_range};
-ghost use Rattle.fixed_size_list_trial.specs.Trial.{mark_count, fixed_slots, shape_reply, absent_in, absent_under, under_reply, shaped_trial, fixed_trial};
+ghost use Rattle.slots.specs.Trials.{and_then, marks_bytes_end};
+ghost use Rattle.fixed_size_list_trial.specs.Trial.{mark_count, shape_reply, BothInside, absent_in, absent_under, under_reply, slots_made, shaped_list_trial, fixed_list_trial};
 
 use array::array::Array;
 use checks::{check_form, check_own};
@@ -28,27 +26,12 @@ pub fn try_new<C: Array + Copy>(
     nulls: Option<NullBuffer>,
     child: C,
 ) -> Result<FixedSizeListArray<C>, Stop>
-    ensures answers { result ≡ fixed_trial ledger.now body.now field size nulls (C.Array.size child) (C.Array.spans child) (absent_under (slot_mark (new_slots (fixed_slots (nat_abs size) (C.Array.size child) nulls) nulls) body.now) (C.Array.entry child body.now) (nat_abs size) (fixed_slots (nat_abs size) (C.Array.size child) nulls)) (C.Array.form child) (record { slots = new_slots (fixed_slots (nat_abs size) (C.Array.size child) nulls) nulls; size = nat_abs size; field = field; child = child }) }
-    ensures leads { MatchResult result (λ h. TrialLeads body.now ledger.now.loaded (C.Array.spans child) (list_seen h.slots (C.Array.entry h.child) (λ b. fixed_range h.size (C.Array.size h.child)) [] (C.Array.spans h.child))) (λ _. StopLeads) }
-{
-    tried(ledger, body, field, size, nulls, child)
-}
-
-fn tried<C: Array + Copy>(
-    ledger: &Ledger,
-    body: &[u8],
-    field: Field,
-    size: i32,
-    nulls: Option<NullBuffer>,
-    child: C,
-) -> Result<FixedSizeListArray<C>, Stop>
-    ensures { result ≡ fixed_trial ledger.now body.now field size nulls (C.Array.size child) (C.Array.spans child) (absent_under (slot_mark (new_slots (fixed_slots (nat_abs size) (C.Array.size child) nulls) nulls) body.now) (C.Array.entry child body.now) (nat_abs size) (fixed_slots (nat_abs size) (C.Array.size child) nulls)) (C.Array.form child) (record { slots = new_slots (fixed_slots (nat_abs size) (C.Array.size child) nulls) nulls; size = nat_abs size; field = field; child = child }) }
+    ensures answers { result ≡ fixed_list_trial C.Array ledger.now body.now field size nulls child }
+    ensures leads { MatchResult result (λ h. TrialLeads body.now ledger.now.loaded (C.Array.spans child) (⟦<FixedSizeListArray<C> as Array>⟧.seen h)) (λ _. StopLeads) }
 {
     check_own(ledger, body, 0, nulls, &child)?;
-    if size < 0 {
-        return Err(Reason::BelowZero.into());
-    }
-    shaped(body, field, size as u32, nulls, child)
+    let size = u32::try_from(size).map_err(|_| Reason::BelowZero)?;
+    shaped(body, field, size, nulls, child)
 }
 
 // The tests after the size's own; marks and child lie in the body.
@@ -60,7 +43,7 @@ fn shaped<C: Array + Copy>(
     child: C,
 ) -> Result<FixedSizeListArray<C>, Stop>
     requires { (marks_bytes_end nulls ≤ length body.now) × (in_body (C.Array.spans child) body.now ≡ true) }
-    ensures { result ≡ shaped_trial field size nulls (C.Array.size child) (absent_under (slot_mark (new_slots (fixed_slots size (C.Array.size child) nulls) nulls) body.now) (C.Array.entry child body.now) size (fixed_slots size (C.Array.size child) nulls)) (C.Array.form child) (record { slots = new_slots (fixed_slots size (C.Array.size child) nulls) nulls; size = size; field = field; child = child }) }
+    ensures { result ≡ shaped_list_trial C.Array body.now field size nulls child }
 {
     let slots = fixed_slots(size, child.len(), nulls)?;
     check_form(field.form, child.data_type())?;
@@ -85,7 +68,7 @@ fn mark_count(nulls: Option<NullBuffer>) -> u64
 
 // The slots of a size over so many entries.
 fn fixed_slots(size: u32, entries: u64, nulls: Option<NullBuffer>) -> Result<Slots, Stop>
-    ensures { result ≡ and_then (shape_reply size entries nulls) (Ok (new_slots (fixed_slots size entries nulls) nulls)) }
+    ensures { result ≡ and_then (shape_reply size entries nulls) (Ok (slots_made size entries nulls)) }
 {
     let len = if size == 0 {
         mark_count(nulls)
@@ -105,10 +88,7 @@ fn present_at(body: &[u8], slots: Slots, i: u64) -> bool
     requires { (i < slots.len) × (in_body (slot_spans slots) body.now ≡ true) }
     ensures { result ≡ slot_mark slots body.now i }
 {
-    match slots.is_valid(body, i) {
-        Ok(present) => present,
-        Err(_) => true,
-    }
+    slots.is_valid(body, i).unwrap_or(true)
 }
 
 // Whether one of the n entries from an entry on is absent; the child lies in the body.
@@ -116,21 +96,26 @@ fn absent_in<C: Array + Copy>(body: &[u8], child: &C, from: u64, n: u64) -> bool
     requires { (from + n ≤ C.Array.size child.now) × (in_body (C.Array.spans child.now) body.now ≡ true) }
     ensures { result ≡ absent_in (C.Array.entry child.now body.now) from n }
 {
-    let Ok(part) = child.slice(from, n) else {
-        return false;
-    };
-    match part.logical_null_count(body) {
-        Ok(absent) => absent != 0,
-        Err(_) => false,
-    }
+    child
+        .slice(from, n)
+        .and_then(|part| part.logical_null_count(body))
+        .is_ok_and(|absent| absent != 0)
 }
 
 // Whether slot i is present and one of its entries absent.
 fn absent_at<C: Array + Copy>(body: &[u8], slots: Slots, size: u32, child: &C, i: u64) -> bool
-    requires { ((i < slots.len) × (i * size + size ≤ C.Array.size child.now)) × ((in_body (slot_spans slots) body.now ≡ true) × (in_body (C.Array.spans child.now) body.now ≡ true)) }
+    requires { ((i < slots.len) × (i * size + size ≤ C.Array.size child.now)) × (BothInside slots (C.Array.spans child.now) body.now) }
     ensures { result ≡ (if slot_mark slots body.now i then (absent_in (C.Array.entry child.now body.now) (i * size) size) else false) }
 {
     present_at(body, slots, i) && absent_in(body, child, i * size as u64, size as u64)
+}
+
+// Whether an entry is absent under a present slot.
+fn absent_under<C: Array + Copy>(body: &[u8], slots: Slots, size: u32, child: &C) -> bool
+    requires { (slots.len * size ≤ C.Array.size child.now) × (BothInside slots (C.Array.spans child.now) body.now) }
+    ensures { result ≡ absent_under (slot_mark slots body.now) (C.Array.entry child.now body.now) size slots.len }
+{
+    (0..slots.len).any(|i| absent_at(body, slots, size, child, i))
 }
 
 // Stops where the field is not nullable and an entry is absent under a present slot.
@@ -141,16 +126,11 @@ fn check_under<C: Array + Copy>(
     nullable: bool,
     child: &C,
 ) -> Result<(), Stop>
-    requires { (slots.len * size ≤ C.Array.size child.now) × ((in_body (slot_spans slots) body.now ≡ true) × (in_body (C.Array.spans child.now) body.now ≡ true)) }
+    requires { (slots.len * size ≤ C.Array.size child.now) × (BothInside slots (C.Array.spans child.now) body.now) }
     ensures { result ≡ under_reply nullable (absent_under (slot_mark slots body.now) (C.Array.entry child.now body.now) size slots.len) }
 {
-    if nullable {
-        return Ok(());
-    }
-    for i in 0..slots.len {
-        if absent_at(body, slots, size, child, i) {
-            return Err(Reason::EntryAbsent.into());
-        }
+    if !nullable && absent_under(body, slots, size, child) {
+        return Err(Reason::EntryAbsent.into());
     }
     Ok(())
 }

@@ -2,14 +2,10 @@
 
 ghost use Rattle.std.specs.Prelude.{◌≡◌, ℕ, ◌+◌, ◌-◌, ◌*◌, ◌<◌, ◌≤◌, length, Ok, Err, MatchResult};
 ghost use Rattle.history.specs.Calls.{TrialLeads, StopLeads};
-ghost use Rattle.history.specs.Entry.{is_absent};
 ghost use Rattle.ledger.specs.Ledger.{Kept};
-ghost use Rattle.slots.specs.Replies.{count_reply};
-ghost use Rattle.slots.specs.Trials.{new_slots};
-ghost use Rattle.array.specs.Lists.{list_seen};
 ghost use Rattle.checks.specs.Checks.{absents};
-ghost use Rattle.list_array.specs.Offsets.{offset_of, list_range, list_words};
-ghost use Rattle.list_trial.specs.Trial.{offsets_reply, list_reply};
+ghost use Rattle.list_array.specs.Offsets.{offset_of};
+ghost use Rattle.list_trial.specs.Trial.{last_reply, offsets_reply, list_trial};
 
 use array::array::Array;
 use array::offset_size::OffsetSizeTrait;
@@ -33,22 +29,8 @@ pub fn try_new<O: OffsetSizeTrait, C: Array + Copy>(
     nulls: Option<NullBuffer>,
     child: C,
 ) -> Result<GenericListArray<O, C>, Stop>
-    ensures answers { result ≡ list_reply O.WIDTH ledger.now body.now field place count nulls (C.Array.size child) (C.Array.spans child) (Ok (absents (C.Array.size child) (C.Array.entry child body.now))) (C.Array.form child) (record { place = place; slots = new_slots (count - 1) nulls; field = field; child = child; kind = record {} }) }
-    ensures leads { MatchResult result (λ h. TrialLeads body.now ledger.now.loaded (C.Array.spans child) (list_seen h.slots (C.Array.entry h.child) (list_range O.WIDTH h.place h.slots (C.Array.size h.child)) (list_words O.WIDTH h.place h.slots) (C.Array.spans h.child))) (λ _. StopLeads) }
-{
-    tried(ledger, body, field, place, count, nulls, child)
-}
-
-fn tried<O: OffsetSizeTrait, C: Array + Copy>(
-    ledger: &Ledger,
-    body: &[u8],
-    field: Field,
-    place: u64,
-    count: u64,
-    nulls: Option<NullBuffer>,
-    child: C,
-) -> Result<GenericListArray<O, C>, Stop>
-    ensures { result ≡ list_reply O.WIDTH ledger.now body.now field place count nulls (C.Array.size child) (C.Array.spans child) (count_reply (C.Array.size child) (C.Array.absent_need child) (λ j. is_absent (C.Array.entry child body.now j)) body.now) (C.Array.form child) (record { place = place; slots = new_slots (count - 1) nulls; field = field; child = child; kind = record {} }) }
+    ensures answers { result ≡ list_trial O.WIDTH C.Array ledger.now body.now field place count nulls child (Ok (absents (C.Array.size child) (C.Array.entry child body.now))) }
+    ensures leads { MatchResult result (λ h. TrialLeads body.now ledger.now.loaded (C.Array.spans child) (⟦<GenericListArray<O, C> as Array>⟧.seen h)) (λ _. StopLeads) }
 {
     check_own(
         ledger,
@@ -78,6 +60,21 @@ fn offset_in<O: OffsetSizeTrait>(body: &[u8], place: u64, k: u64) -> i64
     O::read_nth(body, place, k).unwrap_or(0)
 }
 
+// The last of the offsets, where none is below the one before; they lie in the body.
+fn last_offset<O: OffsetSizeTrait>(body: &[u8], place: u64, count: u64) -> Result<i64, Stop>
+    requires { (0 < count) × (place + O.WIDTH * count ≤ length body.now) }
+    ensures { result ≡ last_reply (offset_of O.WIDTH place body.now) (count - 1) }
+{
+    let first = offset_in::<O>(body, place, 0);
+    (1..count).try_fold(first, |last, k| {
+        let next = offset_in::<O>(body, place, k);
+        if next < last {
+            return Err(Reason::OffsetFalls.into());
+        }
+        Ok(next)
+    })
+}
+
 // The offsets' own tests.
 fn check_offsets<O: OffsetSizeTrait>(
     body: &[u8],
@@ -91,18 +88,10 @@ fn check_offsets<O: OffsetSizeTrait>(
     if count == 0 {
         return Err(Reason::NoOffsets.into());
     }
-    let mut last = offset_in::<O>(body, place, 0);
-    if last < 0 {
+    if offset_in::<O>(body, place, 0) < 0 {
         return Err(Reason::BelowZero.into());
     }
-    for k in 1..count {
-        let next = offset_in::<O>(body, place, k);
-        if next < last {
-            return Err(Reason::OffsetFalls.into());
-        }
-        last = next;
-    }
-    if last as u64 > size {
+    if last_offset::<O>(body, place, count)? as i128 > size as i128 {
         return Err(Reason::BeyondChild.into());
     }
     Ok(())

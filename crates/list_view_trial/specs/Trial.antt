@@ -9,8 +9,10 @@ use Rattle.form.specs.declared.data_type.DataType.{DataType}
 use Rattle.form.specs.declared.data_type.Field.{Field}
 use Rattle.form.specs.Forms.{layer_reply}
 use Rattle.slots.specs.declared.null_buffer.NullBuffer.{NullBuffer}
-use Rattle.slots.specs.Trials.{and_then, bytes_end, marks_reply}
+use Rattle.slots.specs.Trials.{and_then, bytes_end, marks_reply, new_slots}
 use Rattle.checks.specs.Checks.{own_reply, field_reply}
+use Rattle.array.specs.declared.array.Array.{Ghosts}
+use Rattle.list_view_array.specs.declared.list_view_array.GenericListViewArray.{GenericListViewArray}
 use Rattle.list_view_array.specs.Views.{word_number}
 use Rattle.list_view_trial.specs.declared.scalar_buffer.ScalarBuffer.{ScalarBuffer}
 
@@ -44,3 +46,13 @@ view_trial w g b field starts sizes nulls size child absent form h =
     (and_then (sizes_reply starts.len sizes.len)
     (and_then (ends_reply size (view_end w starts.place sizes.place b) starts.len)
     (and_then (field_reply field absent form (layer_reply form (10 + w / 8))) (Ok h)))))
+
+-- the handle that a trial makes: as many slots as starts, from the first one on
+abbrev pub view_made : {O C : Type 0} → Field → ScalarBuffer → ScalarBuffer → Option NullBuffer → C → GenericListViewArray O C
+view_made field starts sizes nulls child =
+    record { starts = starts.place; sizes = sizes.place; slots = new_slots starts.len nulls; field = field; child = child; kind = record {} }
+
+-- the same trial over a child by its own members, with the handle that it makes
+abbrev pub list_view_trial : {O C : Type 0} → ℕ → Ghosts C → Accounts → List ℕ → Field → ScalarBuffer → ScalarBuffer → Option NullBuffer → C → Result ℕ Stop → Result (GenericListViewArray O C) Stop
+list_view_trial w array g b field starts sizes nulls child absent =
+    view_trial w g b field starts sizes nulls (array.size child) (array.spans child) absent (array.form child) (view_made field starts sizes nulls child)

@@ -2,14 +2,9 @@
 
 ghost use Rattle.std.specs.Prelude.{◌≡◌, ℕ, ◌+◌, ◌*◌, ◌<◌, ◌≤◌, length, Ok, Err, MatchResult};
 ghost use Rattle.history.specs.Calls.{TrialLeads, StopLeads};
-ghost use Rattle.history.specs.Entry.{is_absent};
 ghost use Rattle.ledger.specs.Ledger.{Kept};
-ghost use Rattle.slots.specs.Replies.{count_reply};
-ghost use Rattle.slots.specs.Trials.{new_slots};
-ghost use Rattle.array.specs.Lists.{list_seen};
 ghost use Rattle.checks.specs.Checks.{absents};
-ghost use Rattle.list_view_array.specs.Views.{view_range, view_words};
-ghost use Rattle.list_view_trial.specs.Trial.{view_end, end_reply, ends_reply, sizes_reply, view_own, view_trial};
+ghost use Rattle.list_view_trial.specs.Trial.{view_end, end_reply, ends_reply, sizes_reply, view_own, list_view_trial};
 
 use array::array::Array;
 use array::offset_size::OffsetSizeTrait;
@@ -36,22 +31,8 @@ pub fn try_new<O: OffsetSizeTrait, C: Array + Copy>(
     nulls: Option<NullBuffer>,
     child: C,
 ) -> Result<GenericListViewArray<O, C>, Stop>
-    ensures answers { result ≡ view_trial O.WIDTH ledger.now body.now field starts sizes nulls (C.Array.size child) (C.Array.spans child) (Ok (absents (C.Array.size child) (C.Array.entry child body.now))) (C.Array.form child) (record { starts = starts.place; sizes = sizes.place; slots = new_slots starts.len nulls; field = field; child = child; kind = record {} }) }
-    ensures leads { MatchResult result (λ h. TrialLeads body.now ledger.now.loaded (C.Array.spans child) (list_seen h.slots (C.Array.entry h.child) (view_range O.WIDTH h.starts h.sizes h.slots (C.Array.size h.child)) (view_words O.WIDTH h.starts h.sizes h.slots) (C.Array.spans h.child))) (λ _. StopLeads) }
-{
-    tried(ledger, body, field, starts, sizes, nulls, child)
-}
-
-fn tried<O: OffsetSizeTrait, C: Array + Copy>(
-    ledger: &Ledger,
-    body: &[u8],
-    field: Field,
-    starts: ScalarBuffer,
-    sizes: ScalarBuffer,
-    nulls: Option<NullBuffer>,
-    child: C,
-) -> Result<GenericListViewArray<O, C>, Stop>
-    ensures { result ≡ view_trial O.WIDTH ledger.now body.now field starts sizes nulls (C.Array.size child) (C.Array.spans child) (count_reply (C.Array.size child) (C.Array.absent_need child) (λ j. is_absent (C.Array.entry child body.now j)) body.now) (C.Array.form child) (record { starts = starts.place; sizes = sizes.place; slots = new_slots starts.len nulls; field = field; child = child; kind = record {} }) }
+    ensures answers { result ≡ list_view_trial O.WIDTH C.Array ledger.now body.now field starts sizes nulls child (Ok (absents (C.Array.size child) (C.Array.entry child body.now))) }
+    ensures leads { MatchResult result (λ h. TrialLeads body.now ledger.now.loaded (C.Array.spans child) (⟦<GenericListViewArray<O, C> as Array>⟧.seen h)) (λ _. StopLeads) }
 {
     check_own(
         ledger,
@@ -81,7 +62,7 @@ fn view_own(width: u64, starts: ScalarBuffer, sizes: ScalarBuffer) -> u128
 {
     let a = words_end(width, starts.place, starts.len);
     let b = words_end(width, sizes.place, sizes.len);
-    if a < b { b } else { a }
+    a.max(b)
 }
 
 fn check_sizes(starts: u64, sizes: u64) -> Result<(), Stop>
@@ -98,12 +79,8 @@ fn view_end<O: OffsetSizeTrait>(body: &[u8], starts: u64, sizes: u64, k: u64) ->
     requires { (starts + O.WIDTH * k + O.WIDTH ≤ length body.now) × (sizes + O.WIDTH * k + O.WIDTH ≤ length body.now) }
     ensures { result ≡ view_end O.WIDTH starts sizes body.now k }
 {
-    let Some(start) = O::read_nth(body, starts, k) else {
-        return 0;
-    };
-    let Some(count) = O::read_nth(body, sizes, k) else {
-        return 0;
-    };
+    let start = O::read_nth(body, starts, k).unwrap_or(0);
+    let count = O::read_nth(body, sizes, k).unwrap_or(0);
     start.cast_unsigned() as u128 + count.cast_unsigned() as u128
 }
 
@@ -130,8 +107,5 @@ fn check_views<O: OffsetSizeTrait>(
     requires { (k : ℕ) → k < n → (starts + O.WIDTH * k + O.WIDTH ≤ length body.now) × (sizes + O.WIDTH * k + O.WIDTH ≤ length body.now) }
     ensures { result ≡ ends_reply size (view_end O.WIDTH starts sizes body.now) n }
 {
-    for k in 0..n {
-        check_end(size, view_end::<O>(body, starts, sizes, k))?;
-    }
-    Ok(())
+    (0..n).try_for_each(|k| check_end(size, view_end::<O>(body, starts, sizes, k)))
 }

@@ -5,7 +5,7 @@ ghost use Rattle.slots.specs.Trials.{new_slots};
 ghost use Rattle.trails.specs.Blocks.{NumbersIn, MarksIn, ZerosBehind, Holds};
 
 use crate::fault::Refusal;
-use layout::words::put_u16;
+use layout::words::put;
 use ledger::ledger::Ledger;
 use primitive_array::UInt16Array;
 use primitive_array::types::UInt16Type;
@@ -26,14 +26,11 @@ impl Block {
     {
         let n = slots.len() as u64;
         let body = marked_body(heap, slots)?;
-        tried(
-            body,
-            n,
-            Some(NullBuffer {
-                place: 2 * n,
-                len: n,
-            }),
-        )
+        let marks = NullBuffer {
+            place: 2 * n,
+            len: n,
+        };
+        tried(body, n, Some(marks))
     }
 
     // A block without marks; a slot without a number has the number 0.
@@ -61,7 +58,7 @@ fn marked_body(heap: Global, slots: &[Option<u16>]) -> Result<Vec<u8>, AllocErro
     ensures { IfOk result (λ v. NumbersIn slots.now v.items × MarksIn slots.now (2 * length slots.now) v.items) }
 {
     let n = slots.len();
-    let mut body = body_of(heap, slots, (n + 7) / 8)?;
+    let mut body = body_of(heap, slots, n.div_ceil(8))?;
     put_marks(&mut body, 2 * n, slots);
     Ok(body)
 }
@@ -83,7 +80,7 @@ fn put_numbers(body: &mut [u8], slots: &[Option<u16>])
     ensures rest { (t : ℕ) → 16 * length slots.now ≤ t → bit_at body.new t ≡ bit_at body.old t }
 {
     for (k, slot) in slots.iter().enumerate() {
-        let _ = put_u16(body, 2 * k as u64, slot.unwrap_or(0));
+        let _ = put(body, 2 * k as u64, slot.unwrap_or(0));
     }
 }
 

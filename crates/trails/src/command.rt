@@ -37,18 +37,15 @@ impl fmt::Display for Command {
 }
 
 // The command that a line gives; None where the line is blank or a comment.
-pub fn parse<'a>(heap: Global, line: &'a str) -> Result<Option<Command>, Fault<'a>> {
-    let text = match line.split_once('#') {
-        Some((before, _)) => before,
-        None => line,
-    };
+pub fn parse(heap: Global, line: &str) -> Result<Option<Command>, Fault<'_>> {
+    let text = line.split_once('#').map_or(line, |(before, _)| before);
     let mut words = text.split_whitespace();
     let Some(word) = words.next() else {
         return Ok(None);
     };
     let command = match word {
-        "block" => Command::Block(slots(heap, words)?),
-        "plain" => Command::Plain(numbers(heap, words)?),
+        "block" => Command::Block(words.map(slot).try_collect(heap)?),
+        "plain" => Command::Plain(words.map(|word| chute(word).map(Some)).try_collect(heap)?),
         "cut" => Command::Cut(two_numbers(words)?),
         "then" => Command::Then(two_numbers(words)?),
         "foreign" => Command::Foreign(bytes(words)?),
@@ -57,82 +54,56 @@ pub fn parse<'a>(heap: Global, line: &'a str) -> Result<Option<Command>, Fault<'
     Ok(Some(command))
 }
 
-// The slots of a block with marks.
-fn slots<'a>(heap: Global, words: SplitWhitespace<'a>) -> Result<Vec<Option<u16>>, Fault<'a>> {
-    let mut slots = Vec::new(heap);
-    for word in words {
-        let slot = if word == "-" {
-            None
-        } else {
-            Some(chute(word)?)
-        };
-        slots.push(slot)?;
+// A slot of a block with marks.
+fn slot(word: &str) -> Result<Option<u16>, Fault<'_>> {
+    match word {
+        "-" => Ok(None),
+        _ => chute(word).map(Some),
     }
-    Ok(slots)
-}
-
-// The slots of a block without marks: every one has a number.
-fn numbers<'a>(heap: Global, words: SplitWhitespace<'a>) -> Result<Vec<Option<u16>>, Fault<'a>> {
-    let mut slots = Vec::new(heap);
-    for word in words {
-        slots.push(Some(chute(word)?))?;
-    }
-    Ok(slots)
 }
 
 // The two numbers of a cut, and no word more.
-fn two_numbers<'a>(mut words: SplitWhitespace<'a>) -> Result<Window, Fault<'a>> {
-    let start = next_number(&mut words, u64::MAX)?;
-    let n = next_number(&mut words, u64::MAX)?;
+fn two_numbers(mut words: SplitWhitespace<'_>) -> Result<Window, Fault<'_>> {
+    let start = number(next_word(&mut words)?, u64::MAX)?;
+    let n = number(next_word(&mut words)?, u64::MAX)?;
     no_more(words)?;
     Ok(Window { start, n })
 }
 
-// How many bytes another body has.
-fn bytes<'a>(mut words: SplitWhitespace<'a>) -> Result<u16, Fault<'a>> {
-    let Some(word) = words.next() else {
-        return Err(Fault::NumberMissing);
-    };
-    let bytes = chute(word)?;
+// How many bytes another body has, and no word more.
+fn bytes(mut words: SplitWhitespace<'_>) -> Result<u16, Fault<'_>> {
+    let bytes = chute(next_word(&mut words)?)?;
     no_more(words)?;
     Ok(bytes)
 }
 
-fn next_number<'a>(words: &mut SplitWhitespace<'a>, largest: u64) -> Result<u64, Fault<'a>> {
-    match words.next() {
-        Some(word) => number(word, largest),
-        None => Err(Fault::NumberMissing),
-    }
+fn next_word<'a>(words: &mut SplitWhitespace<'a>) -> Result<&'a str, Fault<'a>> {
+    words.next().ok_or(Fault::NumberMissing)
 }
 
-fn no_more<'a>(mut words: SplitWhitespace<'a>) -> Result<(), Fault<'a>> {
-    match words.next() {
-        Some(word) => Err(Fault::TooManyWords(word)),
-        None => Ok(()),
-    }
+fn no_more(mut words: SplitWhitespace<'_>) -> Result<(), Fault<'_>> {
+    words
+        .next()
+        .map_or(Ok(()), |word| Err(Fault::TooManyWords(word)))
 }
 
 // A number of 16 bits.
 fn chute(word: &str) -> Result<u16, Fault<'_>>
     ensures { ParsesUpTo 65535 10 word.now result }
 {
-    let n = number(word, 65535)?;
-    Ok(n as u16)
+    Ok(number(word, u64::from(u16::MAX))? as u16)
 }
 
 // The number that the word writes in decimal digits alone, where it is at most `largest`.
 fn number(word: &str, largest: u64) -> Result<u64, Fault<'_>>
     ensures { ParsesUpTo largest 10 word.now result }
 {
-    if let [b'+', ..] = word.as_bytes() {
+    if word.starts_with('+') {
         return Err(Fault::NotNumber(word));
     }
-    match word.parse::<u64>() {
+    match word.parse() {
         Ok(n) if n <= largest => Ok(n),
-        Ok(_) => Err(Fault::NumberAbove(word, largest)),
-        Err(e) => Err(match e.kind() {
-            IntErrorKind::PosOverflow => Fault::NumberAbove(word, largest),
-            _ => Fault::NotNumber(word),
-        }),
+        Err(e) if *e.kind() != IntErrorKind::PosOverflow => Err(Fault::NotNumber(word)),
+        _ => Err(Fault::NumberAbove(word, largest)),
     }
 }

@@ -1,87 +1,39 @@
 use ledger::stop::Stop;
-use std::alloc::{AllocError, AllocFailed};
-use std::fmt;
+use std::alloc::AllocError;
+use thiserror::Error;
 
 // Why a line is not understood.
-#[derive(Clone, Copy)]
+#[derive(Clone, Copy, Debug, Error)]
 pub enum Fault<'a> {
+    #[error("unknown word {0}")]
     UnknownWord(&'a str),
+    #[error("{0} is not a number")]
     NotNumber(&'a str),
     // A number that is above the largest that may stand there.
+    #[error("number {0} above {1}")]
     NumberAbove(&'a str, u64),
+    #[error("number missing")]
     NumberMissing,
+    #[error("too many words, from {0} on")]
     TooManyWords(&'a str),
     // A cut before any block.
+    #[error("no block yet")]
     NoBlock,
-    NoMemory,
-}
-
-impl<'a> fmt::Display for Fault<'a> {
-    fn fmt<W: fmt::Write>(&self, f: &mut fmt::Formatter<W>) -> fmt::Result {
-        match *self {
-            Fault::UnknownWord(word) => write!(f, "unknown word {word}"),
-            Fault::NotNumber(word) => write!(f, "{word} is not a number"),
-            Fault::NumberAbove(word, largest) => write!(f, "number {word} above {largest}"),
-            Fault::NumberMissing => write!(f, "number missing"),
-            Fault::TooManyWords(word) => write!(f, "too many words, from {word} on"),
-            Fault::NoBlock => write!(f, "no block yet"),
-            Fault::NoMemory => write!(f, "no memory left"),
-        }
-    }
-}
-
-impl<'a> From<AllocError> for Fault<'a> {
-    fn from(_e: AllocError) -> Fault<'a> {
-        Fault::NoMemory
-    }
-}
-
-impl<'a, T: Drop> From<AllocFailed<T>> for Fault<'a> {
-    fn from(_e: AllocFailed<T>) -> Fault<'a> {
-        Fault::NoMemory
-    }
+    #[error("no memory left")]
+    NoMemory(#[from] AllocError),
 }
 
 // Why a line shows nothing.
-#[derive(Clone, Copy)]
+#[derive(Clone, Copy, Debug, Error)]
 pub enum Refusal<'a> {
-    Stopped(Stop),
-    NotUnderstood(Fault<'a>),
+    #[error("{0}")]
+    Stopped(#[from] Stop),
+    #[error("not understood: {0}")]
+    NotUnderstood(#[from] Fault<'a>),
 }
 
-impl<'a> From<Fault<'a>> for Refusal<'a> {
-    fn from(fault: Fault<'a>) -> Refusal<'a> {
-        Refusal::NotUnderstood(fault)
-    }
-}
-
-impl<'a> From<Stop> for Refusal<'a> {
-    fn from(stop: Stop) -> Refusal<'a> {
-        Refusal::Stopped(stop)
-    }
-}
-
-impl<'a> From<AllocError> for Refusal<'a> {
-    fn from(_e: AllocError) -> Refusal<'a> {
-        Refusal::NotUnderstood(Fault::NoMemory)
-    }
-}
-
-impl<'a, T: Drop> From<AllocFailed<T>> for Refusal<'a> {
-    fn from(_e: AllocFailed<T>) -> Refusal<'a> {
-        Refusal::NotUnderstood(Fault::NoMemory)
-    }
-}
-
-impl<'a> fmt::Display for Refusal<'a> {
-    fn fmt<W: fmt::Write>(&self, f: &mut fmt::Formatter<W>) -> fmt::Result {
-        match *self {
-            Refusal::Stopped(stop) => {
-                let reason = stop.reason;
-                let number = reason.number();
-                write!(f, "stopped by {number} ({reason:?})")
-            }
-            Refusal::NotUnderstood(fault) => write!(f, "not understood: {fault}"),
-        }
+impl From<AllocError> for Refusal<'_> {
+    fn from(e: AllocError) -> Self {
+        Refusal::NotUnderstood(Fault::from(e))
     }
 }

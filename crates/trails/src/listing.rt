@@ -19,10 +19,9 @@ pub fn list(heap: Global, handle: UInt16Array, body: &[u8]) -> Result<Listing, R
     ensures { IfOk result (λ l. Lists handle.place handle.slots body.now l) }
 {
     let nulls = handle.null_count(body)?;
-    let mut slots = Vec::new(heap);
-    for i in 0..handle.len() {
-        slots.push(slot(handle, body, i)?)?;
-    }
+    let slots = (0..handle.len())
+        .map(|i| slot(handle, body, i))
+        .try_collect(heap)?;
     Ok(Listing { nulls, slots })
 }
 

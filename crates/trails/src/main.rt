@@ -26,7 +26,7 @@ use std::io;
 
 fn main(rt: HostRuntime) -> io::Result<()> {
     let heap = rt.alloc();
-    let mut session = Session::new();
+    let mut session = Session::default();
     for line in rt.lines(heap) {
         let line = line?;
         if let Some(report) = session.answer(heap, line.as_str()) {

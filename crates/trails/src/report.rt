@@ -6,12 +6,22 @@ use crate::fault::Refusal;
 use crate::listing::Listing;
 use std::fmt;
 
-// What a line gives.
+// A command that is taken, and what it lists.
 #[derive(Drop)]
-pub enum Outcome<'a> {
-    Shown(Command, Listing),
-    Refused(Refusal<'a>),
+pub struct Shown {
+    pub command: Command,
+    pub listing: Listing,
 }
+
+impl fmt::Display for Shown {
+    fn fmt<W: fmt::Write>(&self, f: &mut fmt::Formatter<W>) -> fmt::Result {
+        let Shown { command, listing } = self;
+        write!(f, "{command}: {listing}")
+    }
+}
+
+// What a line gives.
+pub type Outcome<'a> = Result<Shown, Refusal<'a>>;
 
 // A line of the report: which line of the sample it answers, and what that gives.
 #[derive(Drop)]
@@ -20,18 +30,18 @@ pub struct Report<'a> {
     pub outcome: Outcome<'a>,
 }
 
-impl<'a> fmt::Display for Report<'a> {
+impl fmt::Display for Report<'_> {
     fn fmt<W: fmt::Write>(&self, f: &mut fmt::Formatter<W>) -> fmt::Result {
         let line = self.line;
         match &self.outcome {
-            Outcome::Shown(command, listing) => write!(f, "line {line}: {command}: {listing}"),
-            Outcome::Refused(refusal) => write!(f, "line {line}: {refusal}"),
+            Ok(shown) => write!(f, "line {line}: {shown}"),
+            Err(refusal) => write!(f, "line {line}: {refusal}"),
         }
     }
 }
 
 // How many lines were read, and what became of them.
-#[derive(Clone, Copy)]
+#[derive(Clone, Copy, Default)]
 pub struct Tally {
     pub lines: u64,
     pub shown: u64,
@@ -40,23 +50,14 @@ pub struct Tally {
 }
 
 impl Tally {
-    pub fn new() -> Tally {
-        Tally {
-            lines: 0,
-            shown: 0,
-            stopped: 0,
-            not_understood: 0,
-        }
-    }
-
     // Counts what a line gave.
     pub fn count(&mut self, outcome: &Outcome<'_>)
         ensures { self.new ≡ counted self.old outcome.now }
     {
         match outcome {
-            Outcome::Shown(_, _) => self.shown = self.shown.saturating_add(1),
-            Outcome::Refused(Refusal::Stopped(_)) => self.stopped = self.stopped.saturating_add(1),
-            Outcome::Refused(Refusal::NotUnderstood(_)) => self.not_understood = self
+            Ok(_) => self.shown = self.shown.saturating_add(1),
+            Err(Refusal::Stopped(_)) => self.stopped = self.stopped.saturating_add(1),
+            Err(Refusal::NotUnderstood(_)) => self.not_understood = self
                 .not_understood
                 .saturating_add(1),
         }

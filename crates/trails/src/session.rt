@@ -1,12 +1,12 @@
-ghost use Rattle.std.specs.Prelude.{◌≡◌, IfSome, IfOk, OnErr};
+ghost use Rattle.std.specs.Prelude.{◌≡◌, replicate, IfSome, IfOk, OnErr};
 ghost use Rattle.trails.specs.Listings.{Lists};
-ghost use Rattle.trails.specs.Sessions.{CutListedIn, CutShown, ElsewhereIn, Taken};
+ghost use Rattle.trails.specs.Sessions.{CutShown, Taken};
 
 use crate::block::Block;
 use crate::command::{Command, Window, parse};
 use crate::fault::{Fault, Refusal};
 use crate::listing::{Listing, list};
-use crate::report::{Outcome, Report, Tally};
+use crate::report::{Report, Shown, Tally};
 use array::cuts::cut;
 use primitive_array::UInt16Array;
 use std::alloc::Global;
@@ -19,20 +19,13 @@ struct Current {
 }
 
 // A run over the lines of a sample.
-#[derive(Drop)]
+#[derive(Default, Drop)]
 pub struct Session {
     current: Option<Current>,
     tally: Tally,
 }
 
 impl Session {
-    pub fn new() -> Session {
-        Session {
-            current: None,
-            tally: Tally::new(),
-        }
-    }
-
     pub fn tally(&self) -> Tally
         ensures { result ≡ self.now.tally }
     {
@@ -40,13 +33,12 @@ impl Session {
     }
 
     // What the next line gives; None where it is blank or a comment.
-    pub fn answer<'a>(&mut self, heap: Global, text: &'a str) -> Option<Report<'a>> {
+    pub fn answer<'a>(&mut self, heap: Global, text: &'a str) -> Option<Report<'a>>
+        ensures stays { IfSome result (λ r. OnErr r.outcome (self.new.current ≡ self.old.current)) }
+        ensures shows { IfSome result (λ r. IfOk r.outcome (λ s. Taken s.command self.old.current s.listing)) }
+    {
         self.tally.lines = self.tally.lines.saturating_add(1);
-        let outcome = match self.outcome(heap, text) {
-            Ok(None) => return None,
-            Ok(Some((command, listing))) => Outcome::Shown(command, listing),
-            Err(refusal) => Outcome::Refused(refusal),
-        };
+        let outcome = self.outcome(heap, text).transpose()?;
         self.tally.count(&outcome);
         Some(Report {
             line: self.tally.lines,
@@ -55,19 +47,15 @@ impl Session {
     }
 
     // What a line asks for, with its listing; where the line is refused, nothing changes.
-    fn outcome<'a>(
-        &mut self,
-        heap: Global,
-        text: &'a str,
-    ) -> Result<Option<(Command, Listing)>, Refusal<'a>>
+    fn outcome<'a>(&mut self, heap: Global, text: &'a str) -> Result<Option<Shown>, Refusal<'a>>
         ensures stays { OnErr result (self.new ≡ self.old) }
-        ensures shows { IfOk result (λ o. IfSome o (λ p. Taken p.0 self.old.current p.1)) }
+        ensures shows { IfOk result (λ o. IfSome o (λ s. Taken s.command self.old.current s.listing)) }
     {
         let Some(command) = parse(heap, text)? else {
             return Ok(None);
         };
         let listing = self.obey(heap, &command)?;
-        Ok(Some((command, listing)))
+        Ok(Some(Shown { command, listing }))
     }
 
     // Does what a command asks; where it is refused, nothing changes.
@@ -78,9 +66,18 @@ impl Session {
         match command {
             Command::Block(slots) => self.load(heap, Block::marked(heap, slots)?),
             Command::Plain(slots) => self.load(heap, Block::plain(heap, slots)?),
-            Command::Cut(window) => self.show(heap, Origin::Whole, *window),
-            Command::Then(window) => self.show(heap, Origin::Last, *window),
-            Command::Foreign(bytes) => self.ask_elsewhere(heap, *bytes),
+            Command::Cut(window) => {
+                let current = self.current.as_mut().ok_or(Fault::NoBlock)?;
+                current.show_cut(heap, current.block.whole, *window)
+            }
+            Command::Then(window) => {
+                let current = self.current.as_mut().ok_or(Fault::NoBlock)?;
+                current.show_cut(heap, current.last, *window)
+            }
+            Command::Foreign(bytes) => {
+                let current = self.current.as_ref().ok_or(Fault::NoBlock)?;
+                current.ask_elsewhere(heap, *bytes)
+            }
         }
     }
 
@@ -94,59 +91,29 @@ impl Session {
         self.current = Some(Current { block, last });
         Ok(listing)
     }
+}
 
-    // Shows a cut of the block or of what was shown last.
-    fn show(
+impl Current {
+    // Shows a cut of a handle, which is then the handle shown last.
+    fn show_cut(
         &mut self,
         heap: Global,
-        origin: Origin,
+        handle: UInt16Array,
         window: Window,
     ) -> Result<Listing, Refusal<'static>>
-        ensures stays { OnErr result (self.new ≡ self.old) }
-        ensures shows { IfOk result (λ l. CutListedIn origin window self.old.current l) }
+        ensures { CutShown handle window self.old self.new result }
     {
-        match &mut self.current {
-            Some(current) => current.show_cut(heap, origin, window),
-            None => Err(Refusal::NotUnderstood(Fault::NoBlock)),
-        }
+        let made = cut(&handle, window.start, window.n)?;
+        let listing = list(heap, made, &self.block.body)?;
+        self.last = made;
+        Ok(listing)
     }
 
     // Asks the handle shown last on another body, of so many zero bytes.
     fn ask_elsewhere(&self, heap: Global, bytes: u16) -> Result<Listing, Refusal<'static>>
-        ensures { IfOk result (λ l. ElsewhereIn bytes self.now.current l) }
+        ensures { IfOk result (λ l. Lists self.now.last.place self.now.last.slots (replicate bytes 0) l) }
     {
-        let Some(current) = &self.current else {
-            return Err(Refusal::NotUnderstood(Fault::NoBlock));
-        };
         let other = vec![in heap; 0u8; usize::from(bytes)]?;
-        list(heap, current.last, &other)
-    }
-}
-
-// What a cut is made of.
-#[derive(Clone, Copy)]
-enum Origin {
-    Whole,
-    Last,
-}
-
-impl Current {
-    // Shows a cut, which is then the handle shown last.
-    fn show_cut(
-        &mut self,
-        heap: Global,
-        origin: Origin,
-        window: Window,
-    ) -> Result<Listing, Refusal<'static>>
-        ensures { CutShown origin window self.old self.new result }
-    {
-        let from = match origin {
-            Origin::Whole => self.block.whole,
-            Origin::Last => self.last,
-        };
-        let made = cut(&from, window.start, window.n)?;
-        let listing = list(heap, made, &self.block.body)?;
-        self.last = made;
-        Ok(listing)
+        list(heap, self.last, &other)
     }
 }

@@ -1,19 +1,12 @@
-use Rattle.std.proofs.Common.{ℕ, ap, ◌∙◌, rules}
-use Rattle.list_view_trial.specs.Trial.{view_end, end_reply}
-use Rattle.list_view_trial.proofs.Ends.{ends_none, ends_more, ends_stop}
+use Rattle.std.proofs.Common.{ℕ, Err, ap, ◌∙◌, rules, arith}
+use Rattle.std.proofs.lemmas.Result.{err_from_is_err_and}
+use Rattle.list_view_trial.specs.Trial.{view_end}
+use Rattle.list_view_trial.proofs.Ends.{ends_none, ends_tried}
 use Rattle.list_view_trial.proofs.check_views.Goals as goal
 
-pub loop-k-init : goal.loop-k-init
-loop-k-init g c = ends_none _ _
-
-pub loop-k-preserved : goal.loop-k-preserved
-loop-k-preserved g c = search (rules, ends_more)
-
-pub returns-in_err-check_end : goal.returns-in_err-check_end
-returns-in_err-check_end g c =
-    let size = c.args.size in
+pub returns : goal.returns
+returns g c =
     let end : ℕ → ℕ = view_end g.O.ArrowNativeType.WIDTH c.args.starts c.args.sizes c.args.body.now in
-    let k = c.loop-k.k in
-    let h = c.in_err-check_end.ensures ∙ ap (end_reply size) c.view_end.ensures in
-    let s = ends_stop size end k c.args.n _ (search rules) c.loop-k.invariant h in
-    search rules
+    let t = c.try_for_each.ensures.ran in
+    ends_tried _ (λ e. e.0) _ c.args.size end _ c.try_for_each.result t.0 _ _ t.1 t.2 (omega arith) (ends_none _ _) t.3 t.4 t.5
+    (λ x v q k. search rules) (λ e k. let p = err_from_is_err_and c.try_for_each.result k.1 in p.1 ∙ ap Err p.2)

@@ -9,7 +9,7 @@ loop-k-preserved c =
     let k = c.loop-k.k in
     let v = c.unwrap_or.result in
     let fit : 2 * c.loop-k.k + 2 ≤ length c.loop-k.body = omega (arith, c.requires) in
-    let left = c.put_u16.ensures.leaves in (
+    let left = c.put.ensures.leaves in (
       below_more _ _
           (λ j h. rw left (word_else b k v j fit h ∙ c.loop-k.invariant.0 j h))
           (rw left (word_there b k v fit c.unwrap_or.type_inv ∙ c.unwrap_or.ensures)),
