@@ -34,7 +34,9 @@ impl BooleanArray {
         ensures answers { result ≡ bool_reply ledger.now body.now place len nulls }
         ensures leads { MatchResult result (λ h. TrialLeads body.now ledger.now.loaded [] (bool_seen h)) (λ _. StopLeads) }
     {
-        tried(ledger, body, place, len, nulls)
+        let own = bytes_end(place, bit_bytes(len));
+        let slots = try_slots(ledger, body, own, len, nulls)?;
+        Ok(BooleanArray { place, slots })
     }
 
     // The number of the bit of slot i's value.
@@ -43,20 +45,6 @@ impl BooleanArray {
     {
         self.place as u128 * 8 + self.slots.first as u128 + i as u128
     }
-}
-
-fn tried(
-    ledger: &Ledger,
-    body: &[u8],
-    place: u64,
-    len: u64,
-    nulls: Option<NullBuffer>,
-) -> Result<BooleanArray, Stop>
-    ensures { result ≡ bool_reply ledger.now body.now place len nulls }
-{
-    let own = bytes_end(place, bit_bytes(len));
-    let slots = try_slots(ledger, body, own, len, nulls)?;
-    Ok(BooleanArray { place, slots })
 }
 
 impl Array for BooleanArray {

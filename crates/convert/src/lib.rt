@@ -11,6 +11,7 @@ use array::array::{Array, ListLikeArray};
 use array::offset_size::OffsetSizeTrait;
 use fixed_size_list_array::fixed_size_list_array::FixedSizeListArray;
 use form::data_type::Field;
+use layout::words::words_fit;
 use ledger::ledger::Ledger;
 use ledger::stop::{Reason, Stop};
 use list_array::list_array::GenericListArray;
@@ -50,11 +51,10 @@ fn put_views<O: OffsetSizeTrait, L: ListLikeArray>(
     requires { (starts + O.WIDTH * n ≤ length body.old) × (sizes + O.WIDTH * n ≤ length body.old) }
     ensures { body.new ≡ views_put O.WIDTH (ranges_of L.Array L.ListLikeArray.own a.now) starts sizes body.old n }
 {
-    let w = O::width();
     for i in 0..n {
         let (from, to) = a.element_range(body, i).unwrap_or((0, 0));
-        let _ = O::write(body, starts + w * i, from);
-        let _ = O::write(body, sizes + w * i, to.saturating_sub(from));
+        let _ = O::write_nth(body, starts, i, from);
+        let _ = O::write_nth(body, sizes, i, to.saturating_sub(from));
     }
 }
 
@@ -70,8 +70,7 @@ fn offsets_in<O: OffsetSizeTrait, C: Array + Copy>(body: &[u8], a: &GenericListA
     ensures { result ≡ in_body (offset_spans O.WIDTH a.now.place a.now.slots) body.now }
 {
     let len = a.slots.len;
-    let end = a.place as u128 + O::width() as u128 * (a.slots.first as u128 + len as u128 + 1);
-    len == 0 || end <= body.len() as u128
+    len == 0 || words_fit::<O>(body, a.place, a.slots.first + len + 1)
 }
 
 // The tests of a conversion of a list to a view.

@@ -1,4 +1,4 @@
-ghost use Rattle.std.specs.Prelude.{◌≡◌, ◌+◌, ◌*◌, ◌≤◌, cond, length, drop, take, Some, None, if◌then◌else◌};
+ghost use Rattle.std.specs.Prelude.{◌≡◌, ◌+◌, ◌*◌, ◌≤◌, cond, length, drop, take, Some, None, if◌then◌else◌, nat_le};
 ghost use Rattle.layout.specs.Laws.{WordIsSum, AlikeReadAlike, TwosComplement, SignedIsRead, WrittenIsRead, OthersStay};
 ghost use Rattle.layout.specs.Words.{number_reply, put_bytes, word_fits, written};
 
@@ -28,6 +28,13 @@ pub fn word_fits(body: &[u8], at: u64, width: u64) -> bool
 {
     let size = body.len() as u64;
     width <= size && at <= size - width
+}
+
+// Whether the first n words from a place on end inside the body.
+pub fn words_fit<T: ArrowNativeType>(body: &[u8], place: u64, n: u64) -> bool
+    ensures { result ≡ nat_le (place + T.WIDTH * n) (length body.now) }
+{
+    place as u128 + T::WIDTH as u128 * n as u128 <= body.len() as u128
 }
 
 // Writes a number at a place; false, and nothing written, where its word does not lie in the body.

@@ -16,6 +16,7 @@ use array::array::{Array, ListLikeArray};
 use array::offset_size::OffsetSizeTrait;
 use form::data_type::{DataType, Field};
 use layout::bits::marks_fit;
+use layout::words::words_fit;
 use ledger::stop::{Reason, Stop};
 use list_array::GenericListArray;
 use std::marker::PhantomData;
@@ -140,10 +141,8 @@ impl<O: OffsetSizeTrait, C: Array + Copy> Array for GenericListArray<O, C> {
 
     fn fits(&self, body: &[u8]) -> bool {
         let len = self.len();
-        let end = self.place as u128
-            + O::width() as u128 * (self.slots.first as u128 + len as u128 + 1);
         len == 0
-            || end <= body.len() as u128
+            || words_fit::<O>(body, self.place, self.slots.first + len + 1)
                 && marks_fit(self.slots.marks, body, len)
                 && self.child.fits(body)
     }

@@ -16,18 +16,12 @@ use array::array::{Array, ListLikeArray};
 use array::offset_size::OffsetSizeTrait;
 use form::data_type::{DataType, Field};
 use layout::bits::marks_fit;
+use layout::words::words_fit;
 use ledger::stop::{Reason, Stop};
 use list_view_array::GenericListViewArray;
 use std::marker::PhantomData;
 
 pub mod list_view_array;
-
-// Whether the first n words after a place end inside the body.
-fn words_fit<O: OffsetSizeTrait>(body: &[u8], place: u64, n: u64) -> bool
-    ensures { result ≡ nat_le (place + O.WIDTH * n) (length body.now) }
-{
-    place as u128 + O::width() as u128 * n as u128 <= body.len() as u128
-}
 
 // A start and a size as a range in a child of so many entries: both are read as unsigned numbers of 64 bits.
 pub fn view_in(size: u64, start: i64, count: i64) -> Option<(u64, u64)>

@@ -23,7 +23,8 @@ impl NullArray {
         ensures answers { result ≡ null_reply ledger.now body.now len }
         ensures leads { MatchResult result (λ h. TrialLeads body.now ledger.now.loaded [] (null_seen h)) (λ _. StopLeads) }
     {
-        tried(ledger, body, len)
+        let slots = try_slots(ledger, body, 0, len, None)?;
+        Ok(NullArray { len: slots.len })
     }
 
     // The slots, without marks.
@@ -36,13 +37,6 @@ impl NullArray {
             marks: None,
         }
     }
-}
-
-fn tried(ledger: &Ledger, body: &[u8], len: u64) -> Result<NullArray, Stop>
-    ensures { result ≡ null_reply ledger.now body.now len }
-{
-    let slots = try_slots(ledger, body, 0, len, None)?;
-    Ok(NullArray { len: slots.len })
 }
 
 impl Array for NullArray {

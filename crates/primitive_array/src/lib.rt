@@ -18,6 +18,7 @@ ghost use Rattle.primitive_array.specs.PrimitiveArrayAccessorLemmas.{apart};
 use array::array::{Array, ArrayAccessor};
 use form::data_type::DataType;
 use layout::bits::marks_fit;
+use layout::words::words_fit;
 use ledger::ledger::Ledger;
 use ledger::stop::{Reason, Stop};
 use primitive_array::PrimitiveArray;
@@ -46,18 +47,6 @@ pub fn try_new<T: ArrowPrimitiveType>(
 ) -> Result<PrimitiveArray<T>, Stop>
     ensures answers { result ≡ with_slots (λ s. record { place = place; slots = s; kind = record {} }) (number_reply T.ArrowPrimitiveType.width ledger.now body.now place len nulls) }
     ensures leads { MatchResult result (λ h. TrialLeads body.now ledger.now.loaded [] (number_seen T.ArrowPrimitiveType.width T.ArrowPrimitiveType.whole h.place h.slots)) (λ _. StopLeads) }
-{
-    tried(ledger, body, place, len, nulls)
-}
-
-fn tried<T: ArrowPrimitiveType>(
-    ledger: &Ledger,
-    body: &[u8],
-    place: u64,
-    len: u64,
-    nulls: Option<NullBuffer>,
-) -> Result<PrimitiveArray<T>, Stop>
-    ensures { result ≡ with_slots (λ s. record { place = place; slots = s; kind = record {} }) (number_reply T.ArrowPrimitiveType.width ledger.now body.now place len nulls) }
 {
     let slots = try_slots(ledger, body, words_end(T::width(), place, len), len, nulls)?;
     Ok(PrimitiveArray {
@@ -149,9 +138,8 @@ impl<T: ArrowPrimitiveType> Array for PrimitiveArray<T> {
 
     fn fits(&self, body: &[u8]) -> bool {
         let len = self.slots.len;
-        let end = self.place as u128
-            + T::width() as u128 * (self.slots.first as u128 + len as u128);
-        (len == 0 || end <= body.len() as u128) && marks_fit(self.slots.marks, body, len)
+        (len == 0 || words_fit::<T::Native>(body, self.place, self.slots.first + len))
+            && marks_fit(self.slots.marks, body, len)
     }
 }
 
