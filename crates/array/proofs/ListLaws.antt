@@ -105,6 +105,6 @@ taken_range {X = X} size i need range b p h = by (ltb i size) (in_body (need i) 
   where
     by : (t u : Bool) (o : Option X) → ltb i size ≡ t → in_body (need i) b ≡ u → Ok p ≡ cond t (cond u (found o) (Err (stopped BeyondBytes))) (Err (stopped IndexPastEnd)) → (i < size) × ((in_body (need i) b ≡ true) × (o ≡ Some p))
     by true true (Some q) x y e = (ltb-true i size x, (y, cc))
-    by true true None x y e = let z : ◌≡◌ {A = ℕ} 0 1 = cc in absurd (omega arith)
-    by true false o x y e = let z : ◌≡◌ {A = ℕ} 0 1 = cc in absurd (omega arith)
-    by false u o x y e = let z : ◌≡◌ {A = ℕ} 0 1 = cc in absurd (omega arith)
+    by true true None x y e = cc
+    by true false o x y e = cc
+    by false u o x y e = cc

@@ -1,4 +1,4 @@
-use Rattle.std.specs.Prelude.{◌≡◌, ℕ, zero, suc, ◌+◌, ◌-◌, ◌<◌, ◌≤◌, ℤ, pos, negsuc, Some, None, Option, refl}
+use Rattle.std.specs.Prelude.{◌≡◌, ℕ, zero, suc, ◌+◌, ◌-◌, ◌<◌, ◌≤◌, ℤ, pos, Some, None, Option, refl}
 use Rattle.std.proofs.Common.{sym, ap, ◌∙◌, arith}
 use Rattle.history.specs.Entry.{Entry, entries_from}
 use Rattle.history.specs.Entry.Entry.{window}
@@ -17,23 +17,19 @@ entries_shift f g a d (suc n) h =
 -- two ranges of the same numbers are the same
 pub range_apart : (x y : Option Range) → range_numbers x ≡ range_numbers y → x ≡ y
 range_apart None None e = refl
-range_apart None (Some r) e = let z : ◌≡◌ {A = ℕ} 0 1 = cc in absurd (omega arith)
-range_apart (Some q) None e = let z : ◌≡◌ {A = ℕ} 0 1 = cc in absurd (omega arith)
-range_apart (Some q) (Some r) e = ap back e
-  where
-    natural : ℤ → ℕ
-    natural (pos n) = n
-    natural (negsuc n) = 0
-
-    back : Option (ℤ × ℤ) → Option Range
-    back None = None
-    back (Some p) = Some (natural p.0, natural p.1)
+range_apart None (Some r) e = cc
+range_apart (Some q) None e = cc
+range_apart (Some (a, b)) (Some (c, d)) e =
+    let z : ◌≡◌ {A = ℤ × ℤ} (pos a, pos b) (pos c, pos d) = cc in
+    let p : pos a ≡ pos c = ap (λ (n : ℤ × ℤ). n.0) z in
+    let q : pos b ≡ pos d = ap (λ (n : ℤ × ℤ). n.1) z in
+    cc
 
 -- a slot's window is all of its value
 pub item_told_lem : {X : Type 0} (cs : ℕ) (f : ℕ → Entry) (cut : ℕ → ℕ → X) (size_of : X → ℕ) (entry_of : X → ℕ → Entry) (r : Option Range) → Inside cs r
     → ((s n : ℕ) → s + n ≤ cs → size_of (cut s n) ≡ n) → ((s n : ℕ) → s + n ≤ cs → (i : ℕ) → i < n → entry_of (cut s n) i ≡ f (s + i))
     → (x : X) → slice_in cut r ≡ Some x → window_in f r ≡ whole_window (size_of x) (entry_of x)
-item_told_lem cs f cut size_of entry_of None o hs he x e = let z : ◌≡◌ {A = ℕ} 0 1 = cc in absurd (omega arith)
+item_told_lem cs f cut size_of entry_of None o hs he x e = cc
 item_told_lem cs f cut size_of entry_of (Some r) o hs he x e =
     let o0 = o.0 in
     let o1 = o.1 in

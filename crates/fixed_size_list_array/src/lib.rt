@@ -34,7 +34,7 @@ pub fn fixed_range(size: u32, entries: u64, i: u64) -> Option<(u64, u64)>
 fn child_start(size: u32, entries: u64, start: u64) -> u64
     ensures { result ≡ child_start size entries start }
 {
-    (start as u128 * size as u128).min(entries as u128) as u64
+    start.saturating_mul(size as u64).min(entries)
 }
 
 // How many they are.
@@ -42,7 +42,7 @@ fn child_count(size: u32, entries: u64, start: u64, n: u64) -> u64
     ensures { result ≡ child_count size entries start n }
 {
     let left = entries - child_start(size, entries, start);
-    (n as u128 * size as u128).min(left as u128) as u64
+    n.saturating_mul(size as u64).min(left)
 }
 
 impl<C: Array + Copy> Array for FixedSizeListArray<C> {

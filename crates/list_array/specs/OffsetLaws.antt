@@ -38,11 +38,11 @@ range_zero size (pos a) (pos c) h = by (nat_le a c) (nat_le c size) h
   where
     by : (t u : Bool) → ◌≡◌ {A = Option Range} (cond t (cond u (Some (a, c)) None) None) (Some (0, 0)) → (pos a ≡ pos 0) × (pos c ≡ pos 0)
     by true true e = let z : ◌≡◌ {A = Range} (a, c) (0, 0) = cc in (ap (λ (p : Range). pos p.0) z, ap (λ (p : Range). pos p.1) z)
-    by true false e = let z : ◌≡◌ {A = ℕ} 0 1 = cc in absurd (omega arith)
-    by false u e = let z : ◌≡◌ {A = ℕ} 0 1 = cc in absurd (omega arith)
-range_zero size (pos a) (negsuc c) h = let z : ◌≡◌ {A = ℕ} 0 1 = cc in absurd (omega arith)
-range_zero size (negsuc a) (pos c) h = let z : ◌≡◌ {A = ℕ} 0 1 = cc in absurd (omega arith)
-range_zero size (negsuc a) (negsuc c) h = let z : ◌≡◌ {A = ℕ} 0 1 = cc in absurd (omega arith)
+    by true false e = cc
+    by false u e = cc
+range_zero size (pos a) (negsuc c) h = cc
+range_zero size (negsuc a) (pos c) h = cc
+range_zero size (negsuc a) (negsuc c) h = cc
 
 range_none : (w size : ℕ) → range_of size (signed_of w 0) (signed_of w 0) ≡ Some (0, 0)
 range_none w size = rw (signed_none w, le-leb 0 size (omega arith)) refl

@@ -43,7 +43,7 @@ view_zero size x y h = by (nat_le (word_of 8 x + word_of 8 y) size) h
         let p : word_of 8 x ≡ 0 = ap (λ (r : Range). r.0) z in
         let q : word_of 8 x + word_of 8 y ≡ 0 = ap (λ (r : Range). r.1) z in
         (p, omega arith)
-    by false e = let z : ◌≡◌ {A = ℕ} 0 1 = cc in absurd (omega arith)
+    by false e = cc
 
 view_none : (w size : ℕ) → view_of size (signed_of w 0) (signed_of w 0) ≡ Some (0, 0)
 view_none w size = rw (signed_none w, le-leb 0 size (omega arith)) refl
