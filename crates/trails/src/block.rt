@@ -9,6 +9,7 @@ use layout::words::put;
 use ledger::ledger::Ledger;
 use primitive_array::UInt16Array;
 use primitive_array::types::UInt16Type;
+use rows::put_bit;
 use slots::null_buffer::NullBuffer;
 use std::alloc::{AllocError, Global};
 
@@ -84,25 +85,13 @@ fn put_numbers(body: &mut [u8], slots: &[Option<u16>])
     }
 }
 
-// Sets the mark of each slot that has a number, in marks that are all 0.
+// Writes the marks: present where a slot has a number.
 fn put_marks(body: &mut [u8], place: usize, slots: &[Option<u16>])
-    requires fits { 8 * place + length slots.now ≤ 8 * length body.old }
-    requires clear { (k : ℕ) → k < length slots.now → bit_at body.old (8 * place + k) ≡ 0 }
+    requires { 8 * place + length slots.now ≤ 8 * length body.old }
     ensures marks { MarksIn slots.now place body.new }
     ensures rest { (t : ℕ) → t < 8 * place → bit_at body.new t ≡ bit_at body.old t }
 {
     for (k, slot) in slots.iter().enumerate() {
-        if slot.is_some() {
-            set_bit(body, place, k);
-        }
+        put_bit(body, place as u64, k as u64, slot.is_some());
     }
-}
-
-// Sets bit k of the bits that start at the byte `place`.
-fn set_bit(body: &mut [u8], place: usize, k: usize)
-    requires { place + k / 8 < length body.old }
-    ensures sets { bit_at body.new (8 * place + k) ≡ 1 }
-    ensures others { (t : ℕ) → (t ≢ 8 * place + k) → bit_at body.new t ≡ bit_at body.old t }
-{
-    body[place + k / 8] |= 1 << (k % 8);
 }

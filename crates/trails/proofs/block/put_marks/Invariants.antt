@@ -5,5 +5,4 @@ use Rattle.trails.proofs.block.put_marks.Given as goal
 abbrev pub invariant-loop-k : goal.invariant-loop-k
 invariant-loop-k l =
     ((j : ℕ) → j < l.k → bit_set l.body (8 * l.place + j) ≡ is_some (get_or l.slots j None))
-    × ((j : ℕ) → l.k ≤ j → j < length l.slots → bit_at l.body (8 * l.place + j) ≡ 0)
     × ((t : ℕ) → t < 8 * l.place → bit_at l.body t ≡ bit_at l.initial.body t)
