@@ -79,12 +79,12 @@ def main():
                 if re.search(pattern, line) and not line.strip().startswith("//"):
                     found[kind].append(f"{n}:{k}: {line.strip()[:110]}")
 
-    grep("1a own enums", r"^(pub(\(\w+\))? )?enum \w+")
-    grep("1b a kind given as a number", r"digit: u8|::leaf\([0-9]\)|_digit\(\) -> u8|Reason::\w+ => [0-9]+,$|^\s+0x[89ab]$")
+    grep("kinds: enums of the repository", r"^(pub(\(\w+\))? )?enum \w+")
+    grep("kinds: given as a number", r"digit: u8|::leaf\([0-9]\)|_digit\(\) -> u8|Reason::\w+ => [0-9]+,$|^\s+0x[89ab]$")
     for n, t in code.items():
         for at, name, head, body in functions(t):
             if "-> bool" in head and "&mut" in head:
-                found["1c done or not, as a bool"].append(f"{n}:{at}: {name}")
+                found["kinds: done or not, as a bool"].append(f"{n}:{at}: {name}")
     alike, named = defaultdict(list), defaultdict(list)
     for n, t in code.items():
         for at, name, head, body in functions(t):
@@ -92,24 +92,24 @@ def main():
                 alike[shape(name, head, body)].append(f"{n}:{at}: {name}")
     for group in alike.values():
         if len(group) > 1:
-            found["2 functions alike but for types, numbers and names of numbers"].append(" ~ ".join(group))
-    grep("3a loops that are counted by hand", r"^\s*(while|loop)\b")
-    grep("3b loops over a range of indices", r"^\s*for \w+ in [^{]*\.\.")
-    grep("3c other loops", r"^\s*for (?!\w+ in [^{]*\.\.)")
-    grep("4a an Option or a Result turned by a match", r"=> (Ok\(\w+\)|Err\(\w+\)|None|Some\(\w+::from\(\w+\)\)|Ok\(!\w+\)|0|Err\(Stop::new\(Reason::\w+\)\)),$")
-    grep("4b a refusal made by hand", r"Err\(Stop::new\(Reason::\w+\)\)")
-    grep("4c printing, comparing or turning by hand", r"impl.*(Display|From<.*|TryFrom<.*) for|fn same\(|fn number\(|if a < b")
-    grep("5a what a ledger holds, spelt out", r"accounts_of")
-    grep("5b the count of a child's absent entries, spelt out", r"count_reply \(C\.Array\.size")
-    grep("5c the tests of a conversion, spelt out", r"turn_tests \(|fixed_tests \(")
+            found["twins: functions alike but for types, numbers and names of numbers"].append(" ~ ".join(group))
+    grep("loops: counted by hand", r"^\s*(while|loop)\b")
+    grep("loops: over a range of indices", r"^\s*for \w+ in [^{]*\.\.")
+    grep("loops: others", r"^\s*for (?!\w+ in [^{]*\.\.)")
+    grep("by hand: an Option or a Result turned by a match", r"=> (Ok\(\w+\)|Err\(\w+\)|None|Some\(\w+::from\(\w+\)\)|Ok\(!\w+\)|0|Err\(Stop::new\(Reason::\w+\)\)),$")
+    grep("by hand: a refusal made", r"Err\(Stop::new\(Reason::\w+\)\)")
+    grep("by hand: printing, comparing, turning", r"impl.*(Display|From<.*|TryFrom<.*) for|fn same\(|fn number\(|if a < b")
+    grep("spelt out: what a ledger holds", r"accounts_of")
+    grep("spelt out: the count of a child's absent entries", r"count_reply \(C\.Array\.size")
+    grep("spelt out: the tests of a conversion", r"turn_tests \(|fixed_tests \(")
     groups = {"ledger, body": r"ledger: &(mut )?Ledger,? .*body: &", "place, k": r"place: u64, k: u64", "starts, sizes": r"starts: \w+, sizes: \w+", "rows, place": r"rows: Rows, place: u64"}
     for label, pattern in groups.items():
         for n, t in code.items():
             for at, name, head, body in functions(t):
                 if re.search(pattern, head):
-                    found[f"5d parameters that go together: {label}"].append(f"{n}:{at}: {name}")
-    grep("6 a buffer with its length, a search by hand, an arena", r"len: usize|binary_search|\[u8; \d+\],$")
-    grep("7 a match on which step to run", r"Step::\w+(\([^)]*\))? (\||=>)|Origin::\w+ =>")
+                    found[f"together: {label}"].append(f"{n}:{at}: {name}")
+    grep("memory: a buffer with its length, a search by hand, an arena", r"len: usize|binary_search|\[u8; \d+\],$")
+    grep("steps: a match on which one to run", r"Step::\w+(\([^)]*\))? (\||=>)|Origin::\w+ =>")
     for kind in sorted(found):
         print(f"{len(found[kind]):4d}  {kind}")
         if listing:
