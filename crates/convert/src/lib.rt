@@ -32,9 +32,7 @@ pub fn write_views<O: OffsetSizeTrait, L: ListLikeArray>(
     ensures shows { result ≡ true → ViewsShow O.WIDTH (L.Array.size a.now) (L.ListLikeArray.range_need a.now) (L.ListLikeArray.range a.now) starts sizes body.old body.new }
 {
     let n = a.len();
-    let bytes = O::width() as u128 * n as u128;
-    let size = body.len() as u128;
-    if starts as u128 + bytes > size || sizes as u128 + bytes > size {
+    if !words_fit::<O>(body, starts, n) || !words_fit::<O>(body, sizes, n) {
         return false;
     }
     put_views::<O, L>(body, a, starts, sizes, n);
