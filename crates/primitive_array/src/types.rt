@@ -5,7 +5,7 @@ ghost use Rattle.primitive_array.specs.Wholes.{whole_reply};
 ghost use Rattle.std.proofs.Common.{rules};
 ghost use Rattle.layout.specs.NativeLaws.{signed_zero};
 
-use form::data_type::DataType;
+use form::data_type::{DataType, Leaf};
 use layout::native::ArrowNativeType;
 use layout::words::{get, get_nth};
 
@@ -74,7 +74,7 @@ impl ArrowPrimitiveType for UInt16Type {
 
     ghost DIGIT = { 3 };
 
-    const DIGIT: u8 = 3;
+    const DIGIT: u8 = Leaf::UInt16 as u8;
 
     ghost whole = { pos };
 
@@ -92,7 +92,7 @@ impl ArrowPrimitiveType for Int32Type {
 
     ghost DIGIT = { 4 };
 
-    const DIGIT: u8 = 4;
+    const DIGIT: u8 = Leaf::Int32 as u8;
 
     ghost whole = { signed_of 4 };
 
@@ -110,7 +110,7 @@ impl ArrowPrimitiveType for Int64Type {
 
     ghost DIGIT = { 5 };
 
-    const DIGIT: u8 = 5;
+    const DIGIT: u8 = Leaf::Int64 as u8;
 
     ghost whole = { signed_of 8 };
 

@@ -113,9 +113,9 @@ module _ (w : ℕ) (whole : ℕ → ℤ) (p : Rows) (at : ℕ) where
             }
 
 -- what is read of a number's word, told by a width and a reading that are the same as those of the numbers held
-pub tied_read : (v w : ℕ) (f whole : ℕ → ℤ) (word : ℤ → Option ℕ) → v ≡ w → ((n : ℕ) → f n ≡ whole n) → ((z : ℤ) (n : ℕ) → word z ≡ Some n → (f n ≡ z) × (n < 256 ^ v))
+pub tied_read : {v w : ℕ} {f whole : ℕ → ℤ} {word : ℤ → Option ℕ} → v ≡ w → ((n : ℕ) → f n ≡ whole n) → ((z : ℤ) (n : ℕ) → word z ≡ Some n → (f n ≡ z) × (n < 256 ^ v))
     → (z : ℤ) (n : ℕ) → word z ≡ Some n → (whole n ≡ z) × (n < 256 ^ w)
-tied_read v w f whole word e t r z n h = let q = r z n h in (sym (t n) ∙ q.0, rw e at q.1)
+tied_read e t r z n h = let q = r z n h in (sym (t n) ∙ q.0, rw e at q.1)
 
 -- the number of a word that was found
 found : (o : Option ℕ) → is_some o ≡ true → o ≡ Some (unwrap_or o 0)

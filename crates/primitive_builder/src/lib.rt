@@ -88,11 +88,11 @@ impl<T: ArrowPrimitiveType> ArrayBuilder for PrimitiveBuilder<T> {
 
     ghost same_size = { Prim.search rules };
 
-    ghost stays = { λ a b d s i e. number_stays T.ArrowPrimitiveType.width T.ArrowPrimitiveType.whole T.Native.word T.Native.zero_word (tied_read T.Native.WIDTH T.ArrowPrimitiveType.width (λ n. T.Native.whole (T.Native.of_word n)) T.ArrowPrimitiveType.whole T.Native.word T.ArrowPrimitiveType.native_width T.ArrowPrimitiveType.native_whole T.Native.word_read) a.length a.rows a.numbers b d s i e };
+    ghost stays = { λ a b d s i e. number_stays T.ArrowPrimitiveType.width T.ArrowPrimitiveType.whole T.Native.word T.Native.zero_word (tied_read {f = λ n. T.Native.whole (T.Native.of_word n)} T.ArrowPrimitiveType.native_width T.ArrowPrimitiveType.native_whole T.Native.word_read) a.length a.rows a.numbers b d s i e };
 
     ghost keeps_apart = { Prim.search rules };
 
-    ghost goes = { λ a b d s i q l e. number_goes T.ArrowPrimitiveType.width T.ArrowPrimitiveType.whole T.Native.word T.Native.zero_word (tied_read T.Native.WIDTH T.ArrowPrimitiveType.width (λ n. T.Native.whole (T.Native.of_word n)) T.ArrowPrimitiveType.whole T.Native.word T.ArrowPrimitiveType.native_width T.ArrowPrimitiveType.native_whole T.Native.word_read) (leaf_form T.ArrowPrimitiveType.DIGIT) a.length a.rows a.numbers b d s i l e };
+    ghost goes = { λ a b d s i q l e. number_goes T.ArrowPrimitiveType.width T.ArrowPrimitiveType.whole T.Native.word T.Native.zero_word (tied_read {f = λ n. T.Native.whole (T.Native.of_word n)} T.ArrowPrimitiveType.native_width T.ArrowPrimitiveType.native_whole T.Native.word_read) (leaf_form T.ArrowPrimitiveType.DIGIT) a.length a.rows a.numbers b d s i l e };
 
     ghost shot_form = { Prim.search rules };
 

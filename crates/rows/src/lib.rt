@@ -46,9 +46,7 @@ pub fn put_offset<O: OffsetSizeTrait>(body: &mut [u8], place: u64, k: u64, offse
 pub fn nulls_at(body: &[u8], place: u64, n: u64) -> Option<NullBuffer>
     ensures { 8 * place + n ≤ 8 * length body.now → result ≡ nulls_at body.now place n }
 {
-    let Some(zeros) = count_zeros(body, place as u128 * 8, n) else {
-        return None;
-    };
+    let zeros = count_zeros(body, place as u128 * 8, n)?;
     if zeros == 0 {
         return None;
     }

@@ -35,7 +35,7 @@ put_rows-requires g c =
     let q = range_told n.of_word n.word s c.leaf_row-mark.result c.from_i64-number.result z c.leaf_row-mark.ensures c.from_i64-number.ensures c.is_some.result c.is_some.ensures in
     let t : ◌≡◌ {A = Result (Unit {0}) Stop} (Ok tt) (leaf_test (is_some (n.word (leaf_row s).1)) a.rows.count a.rows.room s) =
     c.in_ok-check_leaf.ensures ∙ ap (λ x. leaf_test x a.rows.count a.rows.room s) q in
-    let r = tied_read n.WIDTH p.width (λ k. n.whole (n.of_word k)) p.whole n.word m.ArrowPrimitiveType.native_width m.ArrowPrimitiveType.native_whole m.Native.ArrowNativeType.word_read in
+    let r = tied_read {f = λ k. n.whole (n.of_word k)} m.ArrowPrimitiveType.native_width m.ArrowPrimitiveType.native_whole m.Native.ArrowNativeType.word_read in
     let h : c.from_i64-number.result ≡ Some c.in_ok-number.number = search rules in
     (search rules, word_small n.of_word n.word s c.leaf_row-mark.result c.from_i64-number.result z c.leaf_row-mark.ensures c.from_i64-number.ensures p.whole n.WIDTH p.width n.to_word m.ArrowPrimitiveType.native_width m.Native.ArrowNativeType.word_of_number m.Native.ArrowNativeType.zero_word r a.rows.count a.rows.room t c.in_ok-number.number h)
 
@@ -64,7 +64,7 @@ returns-clause-writes g c =
     let q = range_told n.of_word n.word s c.leaf_row-mark.result c.from_i64-number.result z c.leaf_row-mark.ensures c.from_i64-number.ensures c.is_some.result c.is_some.ensures in
     let t : ◌≡◌ {A = Result (Unit {0}) Stop} (Ok tt) (leaf_test (is_some (n.word (leaf_row s).1)) a.rows.count a.rows.room s) =
     c.in_ok-check_leaf.ensures ∙ ap (λ x. leaf_test x a.rows.count a.rows.room s) q in
-    let r = tied_read n.WIDTH p.width (λ k. n.whole (n.of_word k)) p.whole n.word m.ArrowPrimitiveType.native_width m.ArrowPrimitiveType.native_whole m.Native.ArrowNativeType.word_read in
+    let r = tied_read {f = λ k. n.whole (n.of_word k)} m.ArrowPrimitiveType.native_width m.ArrowPrimitiveType.native_whole m.Native.ArrowNativeType.word_read in
     let h : c.from_i64-number.result ≡ Some c.in_ok-number.number = search rules in
     let k = word_taken n.of_word n.word s c.leaf_row-mark.result c.from_i64-number.result z c.leaf_row-mark.ensures c.from_i64-number.ensures p.whole n.WIDTH p.width n.to_word m.ArrowPrimitiveType.native_width m.Native.ArrowNativeType.word_of_number m.Native.ArrowNativeType.zero_word r a.rows.count a.rows.room t c.in_ok-number.number h in
     let F : Bool → ℕ → ℕ → List ℕ = λ x v j. rows_put (λ i. put_number p.width a.rows a.numbers x v (a.rows.count + i)) j b in
