@@ -36,15 +36,10 @@ list_absence s i f range = absence_needed s i (λ b. window_in (f b) (range b i)
 some_slot : (s : Slots) (i : ℕ) → i < s.len → eqb s.len 0 ≡ false
 some_slot s i l = grind arith
 
--- a list's ranges: each lies in a child of so many entries, and bodies alike in the words have the same ones
-pub record Ranged (s : Slots) (size : ℕ) (range : List ℕ → ℕ → Option Range) (words : List Span) : Type 0 where
-  pub inside : (b : List ℕ) (i : ℕ) → i < s.len → Inside size (range b i)
-  pub alike : (b c : List ℕ) → Alike words b c → (i : ℕ) → i < s.len → range b i ≡ range c i
-
-module _ {s : Slots} {size : ℕ} {range : List ℕ → ℕ → Option Range} {words : List Span} (r : Ranged s size range words) where
+module _ (s : Slots) (words child : List Span) where
   -- the bits of a list with a slot, one by one
-  parts : (child : List Span) (b c : List ℕ) → Alike (list_spans s words child) b c → (i : ℕ) → i < s.len → Alike words b c × (Alike (slot_spans s) b c × Alike child b c)
-  parts child b c h i l =
+  parts : (b c : List ℕ) → Alike (list_spans s words child) b c → (i : ℕ) → i < s.len → Alike words b c × (Alike (slot_spans s) b c × Alike child b c)
+  parts b c h i l =
       let all : Alike (words ++ (slot_spans s ++ child)) b c = rw (some_slot s i l) at h in (
         (λ k p. all k (within_l words (slot_spans s ++ child) k p)),
         (
@@ -53,18 +48,25 @@ module _ {s : Slots} {size : ℕ} {range : List ℕ → ℕ → Option Range} {w
         ),
       )
 
-  -- bodies alike in a list's bits have the same marks, and where the child's entries are the same, show the same
-  pub list_mark_alike : (child : List Span) (b c : List ℕ) → Alike (list_spans s words child) b c → (i : ℕ) → i < s.len → slot_mark s b i ≡ slot_mark s c i
-  list_mark_alike child b c h i l = mark_alike_lem s.marks s.len b c i l (parts child b c h i l).1.0
+  -- bodies alike in a list's bits have the same marks
+  pub list_mark_alike : (b c : List ℕ) → Alike (list_spans s words child) b c → (i : ℕ) → i < s.len → slot_mark s b i ≡ slot_mark s c i
+  list_mark_alike b c h i l = mark_alike_lem s.marks s.len b c i l (parts b c h i l).1.0
 
-  module _ (child : List Span) {f : List ℕ → ℕ → Entry} (same : (b c : List ℕ) → Alike child b c → (i : ℕ) → i < size → f b i ≡ f c i) where
-    pub list_shown_alike : (b c : List ℕ) → Alike (list_spans s words child) b c → (i : ℕ) → i < s.len → list_shown f range b i ≡ list_shown f range c i
-    list_shown_alike b c h i l =
-        let p = parts child b c h i l in
-        window_alike (f b) (f c) size (range b i) (r.inside b i l) (same b c p.1.1) ∙ ap (window_in (f c)) (r.alike b c p.0 i l)
+-- a list's ranges: each lies in a child of so many entries, and bodies alike in the words have the same ones
+pub record Ranged (s : Slots) (size : ℕ) (range : List ℕ → ℕ → Option Range) (words : List Span) : Type 0 where
+  pub inside : (b : List ℕ) (i : ℕ) → i < s.len → Inside size (range b i)
+  pub alike : (b c : List ℕ) → Alike words b c → (i : ℕ) → i < s.len → range b i ≡ range c i
 
-    pub list_entry_alike : (b c : List ℕ) → Alike (list_spans s words child) b c → (i : ℕ) → i < s.len → list_entry s f range b i ≡ list_entry s f range c i
-    list_entry_alike b c h i l = rw (list_mark_alike child b c h i l, list_shown_alike b c h i l) refl
+-- bodies alike in a list's bits show the same, where the child's entries are the same
+module _ {s : Slots} {size : ℕ} {range : List ℕ → ℕ → Option Range} {words : List Span} (r : Ranged s size range words) (child : List Span) {f : List ℕ → ℕ → Entry}
+    (same : (b c : List ℕ) → Alike child b c → (i : ℕ) → i < size → f b i ≡ f c i) where
+  pub list_shown_alike : (b c : List ℕ) → Alike (list_spans s words child) b c → (i : ℕ) → i < s.len → list_shown f range b i ≡ list_shown f range c i
+  list_shown_alike b c h i l =
+      let p = parts s words child b c h i l in
+      window_alike (f b) (f c) size (range b i) (r.inside b i l) (same b c p.1.1) ∙ ap (window_in (f c)) (r.alike b c p.0 i l)
+
+  pub list_entry_alike : (b c : List ℕ) → Alike (list_spans s words child) b c → (i : ℕ) → i < s.len → list_entry s f range b i ≡ list_entry s f range c i
+  list_entry_alike b c h i l = rw (list_mark_alike s words child b c h i l, list_shown_alike b c h i l) refl
 
 pub list_framed : (s : Slots) (size : ℕ) (f : List ℕ → ℕ → Entry) (range : List ℕ → ℕ → Option Range) (words child : List Span)
     → ((b : List ℕ) (i : ℕ) → i < s.len → Inside size (range b i))
@@ -73,7 +75,7 @@ pub list_framed : (s : Slots) (size : ℕ) (f : List ℕ → ℕ → Entry) (ran
     → Framed (list_seen s f range words child)
 list_framed s size f range words child inside alike same =
     let r : Ranged s size range words = record { inside = inside; alike = alike } in
-    seen_framed s.len (slot_mark s) (list_shown f range) (list_spans s words child) (list_mark_alike r child) (list_shown_alike r child same)
+    seen_framed s.len (slot_mark s) (list_shown f range) (list_spans s words child) (list_mark_alike s words child) (list_shown_alike r child same)
 
 -- the bits of a cut are bits of the whole
 pub list_within : (s : Slots) (start n : ℕ) (words words' child child' : List Span) → start + n ≤ s.len

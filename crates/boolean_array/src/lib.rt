@@ -4,6 +4,7 @@ ghost use Rattle.std.specs.Prelude.{◌≡◌, [], Some, MatchResult, refl};
 ghost use Rattle.layout.specs.Bits.{bit_set};
 ghost use Rattle.history.specs.Calls.{TrialLeads, StopLeads};
 ghost use Rattle.form.specs.Forms.{leaf_form};
+ghost use Rattle.ledger.specs.Ledger.{Kept};
 ghost use Rattle.slots.specs.Slots.{slot_mark, slot_need};
 ghost use Rattle.boolean_array.specs.Booleans.{bool_bit, bool_number, bool_source, bool_entry, bool_need, bool_spans, bool_cut, bool_seen, bool_reply};
 ghost use Rattle.layout.proofs.NeedLaws.{mark_needed, bit_needed, needed_into};
@@ -33,6 +34,7 @@ impl BooleanArray {
     ) -> Result<BooleanArray, Stop>
         ensures answers { result ≡ bool_reply ledger.now body.now place len nulls }
         ensures leads { MatchResult result (λ h. TrialLeads body.now ledger.now.loaded [] (bool_seen h)) (λ _. StopLeads) }
+        ensures keeps { Kept ledger.now }
     {
         let own = bytes_end(place, bit_bytes(len));
         let slots = try_slots(ledger, body, own, len, nulls)?;

@@ -20,7 +20,7 @@ use Rattle.slots.specs.Trials.{and_then, bytes_end, marks_bytes_end}
 use Rattle.checks.specs.Checks.{own_reply, absents, absent_count}
 
 -- where the meaning lies in the body, the count is taken
-count_taken : (size : ℕ) (need : ℕ → List Span) (f : List ℕ → ℕ → Bool) (ss : List Span) (b : List ℕ)
+pub count_taken : (size : ℕ) (need : ℕ → List Span) (f : List ℕ → ℕ → Bool) (ss : List Span) (b : List ℕ)
     → ((i : ℕ) → i < size → Needed (need i) (λ c. f c i)) → ((c d : List ℕ) → Alike ss c d → (i : ℕ) → i < size → f c i ≡ f d i)
     → in_body ss b ≡ true → count_reply size need (f b) b ≡ Ok (counts (f b) size)
 count_taken size need f ss b h e t =

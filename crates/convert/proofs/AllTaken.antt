@@ -6,7 +6,7 @@ use native.Mathlib.Decide.{ℕ_discrete}
 use Rattle.ledger.specs.declared.stop.Stop.{Stop}
 use Rattle.convert.specs.Turning.{all_ok}
 
-all_not : {X : Type 0} (f : ℕ → Result X Stop) (i n : ℕ) → i < n → is_ok (f i) ≡ false → all_ok f n ≡ false
+pub all_not : {X : Type 0} (f : ℕ → Result X Stop) (i n : ℕ) → i < n → is_ok (f i) ≡ false → all_ok f n ≡ false
 unfolding all_ok
 all_not f i zero l e = absurd (omega arith)
 all_not f i (suc n) l e =

@@ -2,6 +2,7 @@
 
 ghost use Rattle.std.specs.Prelude.{◌≡◌, ℕ, ◌+◌, ◌*◌, ◌<◌, ◌≤◌, true, length, if◌then◌else◌, Ok, MatchResult};
 ghost use Rattle.layout.specs.Spans.{Within, in_body};
+ghost use Rattle.ledger.specs.Ledger.{Kept};
 ghost use Rattle.slots.specs.Trials.{and_then};
 ghost use Rattle.history.specs.Calls.{TurnLeads, StopLeads};
 ghost use Rattle.convert.specs.Writing.{ranges_of, views_put, views_fit, fresh_slots, ViewsShow};
@@ -77,7 +78,8 @@ fn check_turn<O: OffsetSizeTrait, C: Array + Copy>(
     body: &[u8],
     a: &GenericListArray<O, C>,
 ) -> Result<(), Stop>
-    ensures { result ≡ list_tests O.WIDTH C.Array ledger.now body.now a.now }
+    ensures answers { result ≡ list_tests O.WIDTH C.Array ledger.now body.now a.now }
+    ensures keeps { Kept ledger.now }
 {
     if body.len() as u64 != ledger.length() {
         return Err(Reason::BodyLengthDiffers.into());
@@ -113,7 +115,8 @@ fn check_fixed<O: OffsetSizeTrait, C: Array + Copy>(
     body: &[u8],
     a: &FixedSizeListArray<C>,
 ) -> Result<(), Stop>
-    ensures { result ≡ fixed_list_tests O.WIDTH C.Array ledger.now body.now a.now }
+    ensures answers { result ≡ fixed_list_tests O.WIDTH C.Array ledger.now body.now a.now }
+    ensures keeps { Kept ledger.now }
 {
     if body.len() as u64 != ledger.length() {
         return Err(Reason::BodyLengthDiffers.into());
@@ -150,6 +153,7 @@ fn viewed<O: OffsetSizeTrait, L: ListLikeArray, C: Drop>(
     ensures answers { result ≡ made (view_made slots field child) (places O.WIDTH ledger.old (L.Array.size a.now)) }
     ensures account { ledger.new ≡ ledger_after O.WIDTH ledger.old (L.Array.size a.now) result }
     ensures leaves { length body.old ≡ ledger.old.length → body.new ≡ body_after O.WIDTH ledger.old (ranges_of L.Array L.ListLikeArray.own a.now) body.old (L.Array.size a.now) result }
+    ensures keeps { Kept ledger.new }
 {
     let bytes = O::width() as u128 * a.len() as u128;
     let (starts, sizes) = ledger.reserve_two(bytes, bytes)?;
@@ -175,6 +179,7 @@ pub fn list_to_view<O: OffsetSizeTrait, C: Array + Copy>(
     ensures account { ledger.new ≡ ledger_after O.WIDTH ledger.old a.now.slots.len result }
     ensures leaves { body.new ≡ body_after O.WIDTH ledger.old (list_ranges O.WIDTH (C.Array.size a.now.child) a.now) body.old a.now.slots.len result }
     ensures leads { MatchResult result (λ h. ((k : ℕ) → Within (⟦<GenericListArray<O, C> as Array>⟧.seen a.now).rests k → k < 8 * ledger.old.end) → TurnLeads (⟦<GenericListArray<O, C> as Array>⟧.seen a.now) ledger.old.end body.old (⟦<GenericListViewArray<O, C> as Array>⟧.seen h) ledger.new.end body.new) (λ _. StopLeads) }
+    ensures keeps { Kept ledger.new }
 {
     check_turn(ledger, body, a)?;
     viewed(ledger, body, a, a.slots, a.field, a.child)
@@ -190,6 +195,7 @@ pub fn fixed_to_view<O: OffsetSizeTrait, C: Array + Copy>(
     ensures account { ledger.new ≡ ledger_after O.WIDTH ledger.old a.now.slots.len result }
     ensures leaves { body.new ≡ body_after O.WIDTH ledger.old (fixed_ranges (C.Array.size a.now.child) a.now) body.old a.now.slots.len result }
     ensures leads { MatchResult result (λ h. ((k : ℕ) → Within (⟦<FixedSizeListArray<C> as Array>⟧.seen a.now).rests k → k < 8 * ledger.old.end) → TurnLeads (⟦<FixedSizeListArray<C> as Array>⟧.seen a.now) ledger.old.end body.old (⟦<GenericListViewArray<O, C> as Array>⟧.seen h) ledger.new.end body.new) (λ _. StopLeads) }
+    ensures keeps { Kept ledger.new }
 {
     check_fixed::<O, C>(ledger, body, a)?;
     viewed(ledger, body, a, a.slots, a.field, a.child)

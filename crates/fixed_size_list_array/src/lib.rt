@@ -4,14 +4,16 @@ ghost use Rattle.std.specs.Prelude.{◌≡◌, [], refl};
 ghost use Rattle.std.proofs.Common.{ap, rules};
 ghost use Rattle.form.specs.Forms.{fixed_form};
 ghost use Rattle.slots.specs.Slots.{slot_mark, slot_need, slots_cut};
-ghost use Rattle.array.specs.Lists.{list_shown, list_entry, list_spans, list_seen};
+ghost use Rattle.array.specs.Lists.{list_shown, list_entry, list_spans, list_seen, slice_in, range_numbers, whole_window};
+ghost use Rattle.array.specs.ItemLaws.{item_told_lem};
 ghost use Rattle.fixed_size_list_array.specs.Fixed.{fixed_range, ranges_of, child_start, child_count};
 ghost use Rattle.layout.proofs.NeedLaws.{mark_needed, needed_none};
 ghost use Rattle.array.proofs.ListLaws.{list_absence, list_mark_alike, list_entry_alike, list_shown_alike, list_within};
 ghost use Rattle.fixed_size_list_array.specs.FixedLaws.{cut_window, fixed_inside, child_fits, ranged};
 ghost use Rattle.slots.proofs.Leaves.{slots_mark};
 
-use array::array::{Array, ListLikeArray};
+use array::array::{Array, ArrayAccessor, ListLikeArray};
+use array::list_accessor::list_value;
 use fixed_size_list_array::FixedSizeListArray;
 use form::data_type::{DataType, Field};
 use layout::bits::marks_fit;
@@ -78,7 +80,7 @@ impl<C: Array + Copy> Array for FixedSizeListArray<C> {
 
     ghost absent_needs = { λ a i l. list_absence a.slots i (C.Array.entry a.child) (ranges_of C.Array.size a) };
 
-    ghost mark_alike = { λ a. list_mark_alike (ranged C.Array.size a) (C.Array.spans a.child) };
+    ghost mark_alike = { λ a. list_mark_alike a.slots [] (C.Array.spans a.child) };
 
     ghost entry_alike = { λ a. list_entry_alike (ranged C.Array.size a) (C.Array.spans a.child) (C.Array.entry_alike a.child) };
 
@@ -186,7 +188,35 @@ impl<C: Array + Copy> ListLikeArray for FixedSizeListArray<C> {
         if i >= self.slots.len {
             return Err(Reason::IndexPastEnd.into());
         }
-        fixed_range(self.size, self.child.len(), i).ok_or(Reason::NoRange.into())
+        let Some(range) = fixed_range(self.size, self.child.len(), i) else {
+            return Err(Reason::NoRange.into());
+        };
+        Ok(range)
+    }
+}
+
+impl<C: Array + Copy> ArrayAccessor for FixedSizeListArray<C> {
+    type Item = C;
+
+    ghost item = { λ a b i. slice_in (C.Array.cut a.child) (ranges_of C.Array.size a b i) };
+
+    ghost source = { λ a b i. range_numbers (ranges_of C.Array.size a b i) };
+
+    ghost item_need = { λ a i. [] };
+
+    ghost told = { λ h b. whole_window (C.Array.size h) (C.Array.entry h b) };
+
+    ghost item_needs = { λ a i l. needed_none (range_numbers (fixed_range a.size (C.Array.size a.child) i)) };
+
+    ghost item_from = { λ a b c i l e. refl };
+
+    ghost item_told = { λ a b i x l e m.
+        let cs = C.Array.size a.child in
+        rw m (item_told_lem cs (C.Array.entry a.child b) (C.Array.cut a.child) C.Array.size (λ h. C.Array.entry h b) (ranges_of C.Array.size a b i) (fixed_inside a.size cs i)
+        (λ s n k. C.Array.cut_size a.child s n k) (λ s n k j q. C.Array.cut_entry a.child s n k b j q) x e) };
+
+    fn value(&self, body: &[u8], i: u64) -> Result<C, Stop> {
+        list_value(self, body, i)
     }
 }
 

@@ -29,7 +29,7 @@ use Rattle.fixed_size_list_array.specs.FixedLaws.{fixed_inside}
 use Rattle.fixed_size_list_trial.specs.Trial.{fixed_slots, whole_reply, size_reply, shape_reply, under_reply, child_absent_under, fixed_made, fixed_list_trial}
 
 -- a reply of six tests and a value, by the first and the third
-fixed_cases : {X : Type 0} (x y z t u w : Result (Unit {0}) Stop) (v : X) (r : Result X Stop) (P : X → Type 0) (Q : Type 0)
+pub fixed_cases : {X : Type 0} (x y z t u w : Result (Unit {0}) Stop) (v : X) (r : Result X Stop) (P : X → Type 0) (Q : Type 0)
     → r ≡ and_then x (and_then y (and_then z (and_then t (and_then u (and_then w (Ok v))))))
     → (x ≡ Ok tt → z ≡ Ok tt → P v) → Q → MatchResult r P (λ e. Q)
 fixed_cases x y z (Ok t) (Ok u) w v r P Q e f q = four_cases x y z w v r P Q e (λ a b c. f a c) q
@@ -46,7 +46,7 @@ shape_taken n size entries nulls h = by (leb n length_limit) (whole_reply n size
     by false w p e = let z : ◌≡◌ {A = ℕ} 0 1 = cc in absurd (omega arith)
 
 -- a trial that is taken leads on
-fixed_leads : (size entries : ℕ) (nulls : Option NullBuffer) (g : Accounts) (b : List ℕ) (f : List ℕ → ℕ → Entry) (child : List Span)
+pub fixed_leads : (size entries : ℕ) (nulls : Option NullBuffer) (g : Accounts) (b : List ℕ) (f : List ℕ → ℕ → Entry) (child : List Span)
     → ((c d : List ℕ) → Alike child c d → (i : ℕ) → i < entries → f c i ≡ f d i)
     → Ok tt ≡ own_reply g b 0 nulls child → shape_reply size entries nulls ≡ Ok tt
     → TrialLeads b g.loaded child (list_seen (new_slots (fixed_slots size entries nulls) nulls) f (λ d. fixed_range size entries) [] child)

@@ -30,7 +30,7 @@ unfolding absent_under
 under_all mark f size zero h = refl
 under_all mark f size (suc n) h = rw (under_all mark f size n (λ i l. h i (omega arith))) (h n (omega arith))
 
-under_found : (mark : ℕ → Bool) (f : ℕ → Entry) (size i n : ℕ) → i < n → cond (mark i) (absent_in f (i * size) size) false ≡ true → absent_under mark f size n ≡ true
+pub under_found : (mark : ℕ → Bool) (f : ℕ → Entry) (size i n : ℕ) → i < n → cond (mark i) (absent_in f (i * size) size) false ≡ true → absent_under mark f size n ≡ true
 unfolding absent_under
 under_found mark f size i zero l e = absurd (omega arith)
 under_found mark f size i (suc n) l e =

@@ -2,6 +2,7 @@
 
 ghost use Rattle.std.specs.Prelude.{◌≡◌, ℕ, ◌+◌, ◌*◌, ◌<◌, ◌≤◌, true, false, [], length, nat_abs, if◌then◌else◌, Ok, MatchResult};
 ghost use Rattle.history.specs.Calls.{TrialLeads, StopLeads};
+ghost use Rattle.ledger.specs.Ledger.{Kept};
 ghost use Rattle.layout.specs.Spans.{in_body};
 ghost use Rattle.slots.specs.Slots.{slot_mark, slot_spans};
 ghost use Rattle.slots.specs.Trials.{and_then, marks_bytes_end};
@@ -28,6 +29,7 @@ pub fn try_new<C: Array + Copy>(
 ) -> Result<FixedSizeListArray<C>, Stop>
     ensures answers { result ≡ fixed_list_trial C.Array ledger.now body.now field size nulls child }
     ensures leads { MatchResult result (λ h. TrialLeads body.now ledger.now.loaded (C.Array.spans child) (⟦<FixedSizeListArray<C> as Array>⟧.seen h)) (λ _. StopLeads) }
+    ensures keeps { Kept ledger.now }
 {
     check_own(ledger, body, 0, nulls, &child)?;
     let size = u32::try_from(size).map_err(|_| Reason::BelowZero)?;
@@ -96,10 +98,13 @@ fn absent_in<C: Array + Copy>(body: &[u8], child: &C, from: u64, n: u64) -> bool
     requires { (from + n ≤ C.Array.size child.now) × (in_body (C.Array.spans child.now) body.now ≡ true) }
     ensures { result ≡ absent_in (C.Array.entry child.now body.now) from n }
 {
-    child
-        .slice(from, n)
-        .and_then(|part| part.logical_null_count(body))
-        .is_ok_and(|absent| absent != 0)
+    let Ok(part) = child.slice(from, n) else {
+        return false;
+    };
+    let Ok(absent) = part.logical_null_count(body) else {
+        return false;
+    };
+    absent != 0
 }
 
 // Whether slot i is present and one of its entries absent.

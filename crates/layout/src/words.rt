@@ -18,8 +18,19 @@ pub fn get<T: ArrowNativeType>(body: &[u8], at: u64) -> Option<T>
 pub fn get_nth<T: ArrowNativeType>(body: &[u8], place: u64, k: u64) -> Option<T>
     ensures { result ≡ number_reply T.of_word T.WIDTH body.now (place + T.WIDTH * k) }
 {
-    let at = u64::try_from(place as u128 + T::WIDTH as u128 * k as u128).ok()?;
+    let at = nth_place::<T>(body, place, k)?;
     get(body, at)
+}
+
+// Where word number k of those that lie one behind the other from a place on begins, or nothing where it does not lie in the body.
+fn nth_place<T: ArrowNativeType>(body: &[u8], place: u64, k: u64) -> Option<u64>
+    ensures { result ≡ cond (word_fits body.now (place + T.WIDTH * k) T.WIDTH) (Some (place + T.WIDTH * k)) None }
+{
+    let room = (body.len() as u64).checked_sub(place)?;
+    if k >= room / T::WIDTH {
+        return None;
+    }
+    Some(place + T::WIDTH * k)
 }
 
 // Whether the `width` bytes at a place lie in the body.
@@ -53,10 +64,10 @@ pub fn put_nth<T: ArrowNativeType>(body: &mut [u8], place: u64, k: u64, number: 
     ensures fits { result ≡ word_fits body.old (place + T.WIDTH * k) T.WIDTH }
     ensures leaves { body.new ≡ written T.WIDTH body.old (place + T.WIDTH * k) (T.to_word number) }
 {
-    match u64::try_from(place as u128 + T::WIDTH as u128 * k as u128) {
-        Ok(at) => put(body, at, number),
-        Err(_) => false,
-    }
+    let Some(at) = nth_place::<T>(body, place, k) else {
+        return false;
+    };
+    put(body, at, number)
 }
 
 // The N bytes at a place, or nothing where they do not lie in the body.

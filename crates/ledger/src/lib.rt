@@ -2,7 +2,7 @@
 
 ghost use Rattle.std.specs.Prelude.{◌≡◌, MatchResult};
 ghost use Rattle.history.specs.Calls.{OpenLeads, ReserveLeads, StopLeads};
-ghost use Rattle.ledger.specs.Ledger.{opening, place_behind, reservation, reserved, reservation2, reserved2};
+ghost use Rattle.ledger.specs.Ledger.{Kept, opening, place_behind, reservation, reserved, reservation2, reserved2};
 
 pub mod accounts;
 pub mod ledger;
@@ -32,6 +32,7 @@ impl Ledger {
         ensures answers { result ≡ reservation self.old bytes }
         ensures leaves { self.new ≡ reserved self.old bytes }
         ensures leads { ReserveLeads self.old.end self.new.end }
+        ensures keeps { Kept self.new }
     {
         let (start, end) = self.place_behind(self.end, bytes as u128)?;
         self.end = end;
@@ -43,6 +44,7 @@ impl Ledger {
         ensures answers { result ≡ reservation2 self.old bytes more }
         ensures leaves { self.new ≡ reserved2 self.old bytes more }
         ensures leads { ReserveLeads self.old.end self.new.end }
+        ensures keeps { Kept self.new }
     {
         let (first, between) = self.place_behind(self.end, bytes)?;
         let (second, end) = self.place_behind(between, more)?;

@@ -4,15 +4,17 @@ ghost use Rattle.std.specs.Prelude.{◌≡◌, ◌+◌, ◌/◌, refl};
 ghost use Rattle.std.proofs.Common.{ap, rules};
 ghost use Rattle.form.specs.Forms.{layer_form};
 ghost use Rattle.slots.specs.Slots.{slot_mark, slot_need, slots_cut};
-ghost use Rattle.array.specs.Lists.{list_shown, list_entry, list_spans, list_seen};
+ghost use Rattle.array.specs.Lists.{list_shown, list_entry, list_spans, list_seen, slice_in, range_numbers, whole_window};
+ghost use Rattle.array.specs.ItemLaws.{range_apart, item_told_lem};
 ghost use Rattle.list_array.specs.Offsets.{pair_reply, pair_found, range_of, list_need, list_words, ranges_of, words_of};
-ghost use Rattle.layout.proofs.NeedLaws.{mark_needed};
+ghost use Rattle.layout.proofs.NeedLaws.{mark_needed, needed_into};
 ghost use Rattle.array.proofs.ListLaws.{list_absence, list_mark_alike, list_entry_alike, list_shown_alike, list_within};
 ghost use Rattle.list_array.specs.OffsetLaws.{list_inside, list_range_cut, list_words_cut, list_needed, ranged};
 ghost use Rattle.slots.proofs.Leaves.{slots_mark};
 ghost use Rattle.array.specs.Windows.{window_in};
 
-use array::array::{Array, ListLikeArray};
+use array::array::{Array, ArrayAccessor, ListLikeArray};
+use array::list_accessor::list_value;
 use array::offset_size::OffsetSizeTrait;
 use form::data_type::{DataType, Field};
 use layout::bits::marks_fit;
@@ -50,8 +52,13 @@ fn range_at<O: OffsetSizeTrait>(
 ) -> Result<(u64, u64), Stop>
     ensures { result ≡ pair_found size (pair_reply O.WIDTH place body.now k) }
 {
-    let (lo, hi) = offset_pair::<O>(body, place, k).ok_or(Reason::BeyondBytes)?;
-    range_in(size, lo, hi).ok_or(Reason::NoRange.into())
+    let Some((lo, hi)) = offset_pair::<O>(body, place, k) else {
+        return Err(Reason::BeyondBytes.into());
+    };
+    let Some(range) = range_in(size, lo, hi) else {
+        return Err(Reason::NoRange.into());
+    };
+    Ok(range)
 }
 
 impl<O: OffsetSizeTrait, C: Array + Copy> Array for GenericListArray<O, C> {
@@ -87,7 +94,7 @@ impl<O: OffsetSizeTrait, C: Array + Copy> Array for GenericListArray<O, C> {
 
     ghost absent_needs = { λ a i l. list_absence a.slots i (C.Array.entry a.child) (ranges_of O.WIDTH C.Array.size a) };
 
-    ghost mark_alike = { λ a. list_mark_alike (ranged O.WIDTH C.Array.size a) (C.Array.spans a.child) };
+    ghost mark_alike = { λ a. list_mark_alike a.slots (words_of O.WIDTH a) (C.Array.spans a.child) };
 
     ghost entry_alike = { λ a. list_entry_alike (ranged O.WIDTH C.Array.size a) (C.Array.spans a.child) (C.Array.entry_alike a.child) };
 
@@ -174,6 +181,31 @@ impl<O: OffsetSizeTrait, C: Array + Copy> ListLikeArray for GenericListArray<O, 
             return Err(Reason::IndexPastEnd.into());
         }
         range_at::<O>(body, self.place, self.slots.first + i, self.child.len())
+    }
+}
+
+impl<O: OffsetSizeTrait, C: Array + Copy> ArrayAccessor for GenericListArray<O, C> {
+    type Item = C;
+
+    ghost item = { λ a b i. slice_in (C.Array.cut a.child) (ranges_of O.WIDTH C.Array.size a b i) };
+
+    ghost source = { λ a b i. range_numbers (ranges_of O.WIDTH C.Array.size a b i) };
+
+    ghost item_need = { λ a. list_need O.WIDTH a.place a.slots };
+
+    ghost told = { λ h b. whole_window (C.Array.size h) (C.Array.entry h b) };
+
+    ghost item_needs = { λ a i l. needed_into (list_need O.WIDTH a.place a.slots i) (λ b. ranges_of O.WIDTH C.Array.size a b i) range_numbers range_apart (list_needed O.WIDTH a.place a.slots (C.Array.size a.child) i) };
+
+    ghost item_from = { λ a b c i l e. ap (slice_in (C.Array.cut a.child)) (range_apart _ _ e) };
+
+    ghost item_told = { λ a b i x l e m.
+        let cs = C.Array.size a.child in
+        rw m (item_told_lem cs (C.Array.entry a.child b) (C.Array.cut a.child) C.Array.size (λ h. C.Array.entry h b) (ranges_of O.WIDTH C.Array.size a b i) (list_inside O.WIDTH a.place a.slots cs b i l)
+        (λ s n k. C.Array.cut_size a.child s n k) (λ s n k j q. C.Array.cut_entry a.child s n k b j q) x e) };
+
+    fn value(&self, body: &[u8], i: u64) -> Result<C, Stop> {
+        list_value(self, body, i)
     }
 }
 

@@ -35,7 +35,7 @@ some_offsets f count size h = by (eqb count 0) refl _ h
     by false p r e = grind arith
 
 -- a trial that is taken leads on
-list_leads : (w place count size : ℕ) (nulls : Option NullBuffer) (b : List ℕ) (loaded : ℕ) (f : List ℕ → ℕ → Entry) (child : List Span)
+pub list_leads : (w place count size : ℕ) (nulls : Option NullBuffer) (b : List ℕ) (loaded : ℕ) (f : List ℕ → ℕ → Entry) (child : List Span)
     → ((c d : List ℕ) → Alike child c d → (i : ℕ) → i < size → f c i ≡ f d i)
     → bytes_end place (w * count) ≤ loaded → marks_bytes_end nulls ≤ loaded → count ≤ length_limit
     → offsets_reply (offset_of w place b) count size ≡ Ok tt → marks_reply nulls (count - 1) ≡ Ok tt

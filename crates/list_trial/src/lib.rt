@@ -31,6 +31,7 @@ pub fn try_new<O: OffsetSizeTrait, C: Array + Copy>(
 ) -> Result<GenericListArray<O, C>, Stop>
     ensures answers { result ≡ list_trial O.WIDTH C.Array ledger.now body.now field place count nulls child (Ok (absents (C.Array.size child) (C.Array.entry child body.now))) }
     ensures leads { MatchResult result (λ h. TrialLeads body.now ledger.now.loaded (C.Array.spans child) (⟦<GenericListArray<O, C> as Array>⟧.seen h)) (λ _. StopLeads) }
+    ensures keeps { Kept ledger.now }
 {
     check_own(
         ledger,
@@ -65,14 +66,15 @@ fn last_offset<O: OffsetSizeTrait>(body: &[u8], place: u64, count: u64) -> Resul
     requires { (0 < count) × (place + O.WIDTH * count ≤ length body.now) }
     ensures { result ≡ last_reply (offset_of O.WIDTH place body.now) (count - 1) }
 {
-    let first = offset_in::<O>(body, place, 0);
-    (1..count).try_fold(first, |last, k| {
+    let mut last = offset_in::<O>(body, place, 0);
+    for k in 1..count {
         let next = offset_in::<O>(body, place, k);
         if next < last {
             return Err(Reason::OffsetFalls.into());
         }
-        Ok(next)
-    })
+        last = next;
+    }
+    Ok(last)
 }
 
 // The offsets' own tests.

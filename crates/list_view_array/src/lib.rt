@@ -4,15 +4,17 @@ ghost use Rattle.std.specs.Prelude.{◌≡◌, ◌+◌, ◌*◌, ◌/◌, length
 ghost use Rattle.std.proofs.Common.{ap, rules};
 ghost use Rattle.form.specs.Forms.{layer_form};
 ghost use Rattle.slots.specs.Slots.{slot_mark, slot_need, slots_cut};
-ghost use Rattle.array.specs.Lists.{list_shown, list_entry, list_spans, list_seen};
+ghost use Rattle.array.specs.Lists.{list_shown, list_entry, list_spans, list_seen, slice_in, range_numbers, whole_window};
+ghost use Rattle.array.specs.ItemLaws.{range_apart, item_told_lem};
 ghost use Rattle.list_view_array.specs.Views.{view_of, view_found, view_reply, view_need, view_words, ranges_of, words_of};
-ghost use Rattle.layout.proofs.NeedLaws.{mark_needed};
+ghost use Rattle.layout.proofs.NeedLaws.{mark_needed, needed_into};
 ghost use Rattle.array.proofs.ListLaws.{list_absence, list_mark_alike, list_entry_alike, list_shown_alike, list_within};
 ghost use Rattle.list_view_array.specs.ViewLaws.{view_inside, view_range_cut, view_words_cut, view_needed, few_bytes, ranged};
 ghost use Rattle.slots.proofs.Leaves.{slots_mark};
 ghost use Rattle.array.specs.Windows.{window_in};
 
-use array::array::{Array, ListLikeArray};
+use array::array::{Array, ArrayAccessor, ListLikeArray};
+use array::list_accessor::list_value;
 use array::offset_size::OffsetSizeTrait;
 use form::data_type::{DataType, Field};
 use layout::bits::marks_fit;
@@ -42,9 +44,16 @@ fn view_at<O: OffsetSizeTrait>(
 ) -> Result<(u64, u64), Stop>
     ensures { result ≡ view_found size (view_reply O.WIDTH starts sizes body.now k) }
 {
-    let start = O::read_nth(body, starts, k).ok_or(Reason::BeyondBytes)?;
-    let count = O::read_nth(body, sizes, k).ok_or(Reason::BeyondBytes)?;
-    view_in(size, start, count).ok_or(Reason::NoRange.into())
+    let Some(start) = O::read_nth(body, starts, k) else {
+        return Err(Reason::BeyondBytes.into());
+    };
+    let Some(count) = O::read_nth(body, sizes, k) else {
+        return Err(Reason::BeyondBytes.into());
+    };
+    let Some(range) = view_in(size, start, count) else {
+        return Err(Reason::NoRange.into());
+    };
+    Ok(range)
 }
 
 impl<O: OffsetSizeTrait, C: Array + Copy> Array for GenericListViewArray<O, C> {
@@ -80,7 +89,7 @@ impl<O: OffsetSizeTrait, C: Array + Copy> Array for GenericListViewArray<O, C> {
 
     ghost absent_needs = { λ a i l. list_absence a.slots i (C.Array.entry a.child) (ranges_of O.WIDTH C.Array.size a) };
 
-    ghost mark_alike = { λ a. list_mark_alike (ranged O.WIDTH C.Array.size a) (C.Array.spans a.child) };
+    ghost mark_alike = { λ a. list_mark_alike a.slots (words_of O.WIDTH a) (C.Array.spans a.child) };
 
     ghost entry_alike = { λ a. list_entry_alike (ranged O.WIDTH C.Array.size a) (C.Array.spans a.child) (C.Array.entry_alike a.child) };
 
@@ -176,6 +185,31 @@ impl<O: OffsetSizeTrait, C: Array + Copy> ListLikeArray for GenericListViewArray
             self.slots.first + i,
             self.child.len(),
         )
+    }
+}
+
+impl<O: OffsetSizeTrait, C: Array + Copy> ArrayAccessor for GenericListViewArray<O, C> {
+    type Item = C;
+
+    ghost item = { λ a b i. slice_in (C.Array.cut a.child) (ranges_of O.WIDTH C.Array.size a b i) };
+
+    ghost source = { λ a b i. range_numbers (ranges_of O.WIDTH C.Array.size a b i) };
+
+    ghost item_need = { λ a. view_need O.WIDTH a.starts a.sizes a.slots };
+
+    ghost told = { λ h b. whole_window (C.Array.size h) (C.Array.entry h b) };
+
+    ghost item_needs = { λ a i l. needed_into (view_need O.WIDTH a.starts a.sizes a.slots i) (λ b. ranges_of O.WIDTH C.Array.size a b i) range_numbers range_apart (view_needed O.WIDTH a.starts a.sizes a.slots (C.Array.size a.child) (few_bytes O.WIDTH O.OffsetSizeTrait.wide) i) };
+
+    ghost item_from = { λ a b c i l e. ap (slice_in (C.Array.cut a.child)) (range_apart _ _ e) };
+
+    ghost item_told = { λ a b i x l e m.
+        let cs = C.Array.size a.child in
+        rw m (item_told_lem cs (C.Array.entry a.child b) (C.Array.cut a.child) C.Array.size (λ h. C.Array.entry h b) (ranges_of O.WIDTH C.Array.size a b i) (view_inside O.WIDTH a.starts a.sizes a.slots cs b i l)
+        (λ s n k. C.Array.cut_size a.child s n k) (λ s n k j q. C.Array.cut_entry a.child s n k b j q) x e) };
+
+    fn value(&self, body: &[u8], i: u64) -> Result<C, Stop> {
+        list_value(self, body, i)
     }
 }
 

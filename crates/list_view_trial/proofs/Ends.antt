@@ -15,12 +15,12 @@ unfolding ends_reply
 ends_none size end = refl
 
 -- one slot more
-ends_more : (size : ℕ) (end : ℕ → ℕ) (k : ℕ) → ends_reply size end k ≡ Ok tt → Ok tt ≡ end_reply size (end k) → ends_reply size end (k + 1) ≡ Ok tt
+pub ends_more : (size : ℕ) (end : ℕ → ℕ) (k : ℕ) → ends_reply size end k ≡ Ok tt → Ok tt ≡ end_reply size (end k) → ends_reply size end (k + 1) ≡ Ok tt
 unfolding ends_reply
 ends_more size end k h e = rw (add-one k, h, sym e) refl
 
 -- the first slot that stops decides
-ends_stop : (size : ℕ) (end : ℕ → ℕ) (k n : ℕ) (s : Stop) → k < n → ends_reply size end k ≡ Ok tt → Err s ≡ end_reply size (end k) → Err s ≡ ends_reply size end n
+pub ends_stop : (size : ℕ) (end : ℕ → ℕ) (k n : ℕ) (s : Stop) → k < n → ends_reply size end k ≡ Ok tt → Err s ≡ end_reply size (end k) → Err s ≡ ends_reply size end n
 unfolding ends_reply
 ends_stop size end k zero s l h e = absurd (omega arith)
 ends_stop size end k (suc n) s l h e =

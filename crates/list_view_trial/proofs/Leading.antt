@@ -28,7 +28,7 @@ use Rattle.list_view_array.specs.ViewLaws.{view_inside, view_range_alike}
 use Rattle.list_view_trial.specs.Trial.{view_end, ends_reply, sizes_reply, view_own, view_made, list_view_trial}
 use Rattle.list_view_trial.specs.declared.scalar_buffer.ScalarBuffer.{ScalarBuffer}
 
-same_count : (starts sizes : ℕ) → sizes_reply starts sizes ≡ Ok tt → sizes ≡ starts
+pub same_count : (starts sizes : ℕ) → sizes_reply starts sizes ≡ Ok tt → sizes ≡ starts
 same_count starts sizes h = by (eqb sizes starts) refl h
   where
     by : (t : Bool) → eqb sizes starts ≡ t → ◌≡◌ {A = Result (Unit {0}) Stop} (cond t (Ok tt) (Err (stopped SizeCountDiffers))) (Ok tt) → sizes ≡ starts
@@ -36,7 +36,7 @@ same_count starts sizes h = by (eqb sizes starts) refl h
     by false p e = let z : ◌≡◌ {A = ℕ} 0 1 = cc in absurd (omega arith)
 
 -- a trial that is taken leads on
-view_leads : (w : ℕ) (starts sizes : ScalarBuffer) (size : ℕ) (nulls : Option NullBuffer) (b : List ℕ) (loaded : ℕ) (f : List ℕ → ℕ → Entry) (child : List Span)
+pub view_leads : (w : ℕ) (starts sizes : ScalarBuffer) (size : ℕ) (nulls : Option NullBuffer) (b : List ℕ) (loaded : ℕ) (f : List ℕ → ℕ → Entry) (child : List Span)
     → ((c d : List ℕ) → Alike child c d → (i : ℕ) → i < size → f c i ≡ f d i)
     → view_own w starts sizes ≤ loaded → marks_bytes_end nulls ≤ loaded → starts.len ≤ length_limit
     → marks_reply nulls starts.len ≡ Ok tt → sizes_reply starts.len sizes.len ≡ Ok tt

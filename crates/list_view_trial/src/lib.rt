@@ -33,6 +33,7 @@ pub fn try_new<O: OffsetSizeTrait, C: Array + Copy>(
 ) -> Result<GenericListViewArray<O, C>, Stop>
     ensures answers { result ≡ list_view_trial O.WIDTH C.Array ledger.now body.now field starts sizes nulls child (Ok (absents (C.Array.size child) (C.Array.entry child body.now))) }
     ensures leads { MatchResult result (λ h. TrialLeads body.now ledger.now.loaded (C.Array.spans child) (⟦<GenericListViewArray<O, C> as Array>⟧.seen h)) (λ _. StopLeads) }
+    ensures keeps { Kept ledger.now }
 {
     check_own(
         ledger,

@@ -4,6 +4,7 @@ ghost use Rattle.std.specs.Prelude.{◌≡◌, true, [], MatchResult};
 ghost use Rattle.history.specs.Entry.Entry.{absent};
 ghost use Rattle.history.specs.Calls.{TrialLeads, StopLeads};
 ghost use Rattle.form.specs.Forms.{leaf_form};
+ghost use Rattle.ledger.specs.Ledger.{Kept};
 ghost use Rattle.null_array.specs.Nulls.{null_slots, null_cut, null_reply, null_seen};
 ghost use Rattle.std.proofs.Common.{rules};
 
@@ -22,6 +23,7 @@ impl NullArray {
     pub fn try_new(ledger: &Ledger, body: &[u8], len: u64) -> Result<NullArray, Stop>
         ensures answers { result ≡ null_reply ledger.now body.now len }
         ensures leads { MatchResult result (λ h. TrialLeads body.now ledger.now.loaded [] (null_seen h)) (λ _. StopLeads) }
+        ensures keeps { Kept ledger.now }
     {
         let slots = try_slots(ledger, body, 0, len, None)?;
         Ok(NullArray { len: slots.len })

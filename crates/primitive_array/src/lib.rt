@@ -5,6 +5,7 @@ ghost use Rattle.std.proofs.Common.{ap, rules};
 ghost use Rattle.history.specs.Entry.Entry.{number};
 ghost use Rattle.history.specs.Calls.{TrialLeads, StopLeads};
 ghost use Rattle.form.specs.Forms.{leaf_form};
+ghost use Rattle.ledger.specs.Ledger.{Kept};
 ghost use Rattle.layout.specs.Words.{word_at};
 ghost use Rattle.slots.specs.Slots.{slot_mark, slot_need, slots_cut};
 ghost use Rattle.slots.specs.Trials.{with_slots};
@@ -47,6 +48,7 @@ pub fn try_new<T: ArrowPrimitiveType>(
 ) -> Result<PrimitiveArray<T>, Stop>
     ensures answers { result ≡ with_slots (λ s. record { place = place; slots = s; kind = record {} }) (number_reply T.ArrowPrimitiveType.width ledger.now body.now place len nulls) }
     ensures leads { MatchResult result (λ h. TrialLeads body.now ledger.now.loaded [] (number_seen T.ArrowPrimitiveType.width T.ArrowPrimitiveType.whole h.place h.slots)) (λ _. StopLeads) }
+    ensures keeps { Kept ledger.now }
 {
     let slots = try_slots(ledger, body, words_end(T::width(), place, len), len, nulls)?;
     Ok(PrimitiveArray {
@@ -168,6 +170,9 @@ impl<T: ArrowPrimitiveType> ArrayAccessor for PrimitiveArray<T> {
         if i >= self.slots.len {
             return Err(Reason::IndexPastEnd.into());
         }
-        T::read_nth(body, self.place, self.slots.first + i).ok_or(Reason::BeyondBytes.into())
+        let Some(v) = T::read_nth(body, self.place, self.slots.first + i) else {
+            return Err(Reason::BeyondBytes.into());
+        };
+        Ok(v)
     }
 }

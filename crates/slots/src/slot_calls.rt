@@ -48,6 +48,7 @@ impl Slots {
     }
 
     // How many slots have a null mark.
+    #[tactic(auto, using(crate::proofs::Asks::asked_count))]
     pub fn null_count(self, body: &[u8]) -> Result<u64, Stop>
         ensures { result ≡ count_reply self.len (slot_need self) (λ j. not (slot_mark self body.now j)) body.now }
     {

@@ -112,7 +112,8 @@ pub fn try_slots(
     len: u64,
     nulls: Option<NullBuffer>,
 ) -> Result<Slots, Stop>
-    ensures { result ≡ leaf_reply ledger.now body.now own len nulls }
+    ensures answers { result ≡ leaf_reply ledger.now body.now own len nulls }
+    ensures keeps { Kept ledger.now }
 {
     check_bytes(ledger, body, own, nulls)?;
     let slots = Slots::new(len, nulls)?;

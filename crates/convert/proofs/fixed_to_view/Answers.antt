@@ -18,7 +18,7 @@ returns-clause-leads g c =
     let size = array.size a.child in
     let child = array.spans a.child in
     let ranges = fixed_ranges size a in
-    let t = fixed_taken ledger b (all_ok (ranges b) s.len) (starts_small w a.size s.len) c.in_ok-check_fixed.ensures in
+    let t = fixed_taken ledger b (all_ok (ranges b) s.len) (starts_small w a.size s.len) c.in_ok-check_fixed.ensures.answers in
     let l : length b ≡ ledger.length = eqb-true _ _ t.0 in
     viewed_leads w array ledger c.viewed.new.ledger s a.field a.child ranges b c.viewed.new.body (list_seen s (array.entry a.child) (λ d. fixed_range a.size size) [] child)
     ((k : ℕ) → Within (list_spans s [] child) k → k < 8 * ledger.end) c.viewed.result c.viewed.ensures.answers c.viewed.ensures.account (c.viewed.ensures.leaves l)

@@ -20,7 +20,7 @@ returns-clause-leads g c =
     let child = array.spans a.child in
     let ranges = list_ranges w size a in
     let words = list_words w a.place s in
-    let t = turn_taken ledger b (in_body (offset_spans w a.place s) b) a.field.nullable (absent_count array a.child b) (all_ok (ranges b) s.len) c.in_ok-check_turn.ensures in
+    let t = turn_taken ledger b (in_body (offset_spans w a.place s) b) a.field.nullable (absent_count array a.child b) (all_ok (ranges b) s.len) c.in_ok-check_turn.ensures.answers in
     let l : length b ≡ ledger.length = eqb-true _ _ t.0 in
     viewed_leads w array ledger c.viewed.new.ledger s a.field a.child ranges b c.viewed.new.body (list_seen s (array.entry a.child) (list_range w a.place s size) words child)
     ((k : ℕ) → Within (list_spans s words child) k → k < 8 * ledger.end) c.viewed.result c.viewed.ensures.answers c.viewed.ensures.account (c.viewed.ensures.leaves l)
