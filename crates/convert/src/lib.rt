@@ -52,8 +52,8 @@ fn put_views<O: OffsetSizeTrait, L: ListLikeArray>(
 {
     for i in 0..n {
         let (from, to) = a.element_range(body, i).unwrap_or((0, 0));
-        let _ = O::write_nth(body, starts, i, from);
-        let _ = O::write_nth(body, sizes, i, to.saturating_sub(from));
+        let _ = O::write(body, starts + O::WIDTH * i, from);
+        let _ = O::write(body, sizes + O::WIDTH * i, to.saturating_sub(from));
     }
 }
 
@@ -153,6 +153,7 @@ fn viewed<O: OffsetSizeTrait, L: ListLikeArray, C: Drop>(
     ensures answers { result ≡ made (view_made slots field child) (places O.WIDTH ledger.old (L.Array.size a.now)) }
     ensures account { ledger.new ≡ ledger_after O.WIDTH ledger.old (L.Array.size a.now) result }
     ensures leaves { length body.old ≡ ledger.old.length → body.new ≡ body_after O.WIDTH ledger.old (ranges_of L.Array L.ListLikeArray.own a.now) body.old (L.Array.size a.now) result }
+    ensures kept { Kept ledger.old }
     ensures keeps { Kept ledger.new }
 {
     let bytes = O::width() as u128 * a.len() as u128;
@@ -179,6 +180,7 @@ pub fn list_to_view<O: OffsetSizeTrait, C: Array + Copy>(
     ensures account { ledger.new ≡ ledger_after O.WIDTH ledger.old a.now.slots.len result }
     ensures leaves { body.new ≡ body_after O.WIDTH ledger.old (list_ranges O.WIDTH (C.Array.size a.now.child) a.now) body.old a.now.slots.len result }
     ensures leads { MatchResult result (λ h. ((k : ℕ) → Within (⟦<GenericListArray<O, C> as Array>⟧.seen a.now).rests k → k < 8 * ledger.old.end) → TurnLeads (⟦<GenericListArray<O, C> as Array>⟧.seen a.now) ledger.old.end body.old (⟦<GenericListViewArray<O, C> as Array>⟧.seen h) ledger.new.end body.new) (λ _. StopLeads) }
+    ensures kept { Kept ledger.old }
     ensures keeps { Kept ledger.new }
 {
     check_turn(ledger, body, a)?;
@@ -195,6 +197,7 @@ pub fn fixed_to_view<O: OffsetSizeTrait, C: Array + Copy>(
     ensures account { ledger.new ≡ ledger_after O.WIDTH ledger.old a.now.slots.len result }
     ensures leaves { body.new ≡ body_after O.WIDTH ledger.old (fixed_ranges (C.Array.size a.now.child) a.now) body.old a.now.slots.len result }
     ensures leads { MatchResult result (λ h. ((k : ℕ) → Within (⟦<FixedSizeListArray<C> as Array>⟧.seen a.now).rests k → k < 8 * ledger.old.end) → TurnLeads (⟦<FixedSizeListArray<C> as Array>⟧.seen a.now) ledger.old.end body.old (⟦<GenericListViewArray<O, C> as Array>⟧.seen h) ledger.new.end body.new) (λ _. StopLeads) }
+    ensures kept { Kept ledger.old }
     ensures keeps { Kept ledger.new }
 {
     check_fixed::<O, C>(ledger, body, a)?;

@@ -125,6 +125,20 @@ zeros_listed b at (suc n) = by (bit_set b at) (zeros_listed b (at + 1) n) ∙ sy
     by true e = omega arith
     by false e = omega arith
 
+-- the bits that are 0, counted by how far they lie behind a bit
+pub zeros_behind : (b : List ℕ) (at j n : ℕ) → length (filter (λ i. not (bit_set b (at + i))) (range_with_len j n)) ≡ zeros_from b (at + j) n
+zeros_behind b at j zero = sym (zeros_none b (at + j))
+zeros_behind b at j (suc n) =
+    let next : at + (j + 1) ≡ at + j + 1 = omega arith in
+    by (bit_set b (at + j)) (zeros_behind b at (j + 1) n ∙ ap (λ k. zeros_from b k n) next) ∙ sym (zeros_first b (at + j) n)
+  where
+    rest : List ℕ
+    rest = filter (λ i. not (bit_set b (at + i))) (range_with_len (j + 1) n)
+
+    by : (u : Bool) → length rest ≡ zeros_from b (at + j + 1) n → length (cond (not u) (j ∷ rest) rest) ≡ cond u 0 1 + zeros_from b (at + j + 1) n
+    by true e = omega arith
+    by false e = omega arith
+
 -- bits that are alike are counted alike
 zeros_alike : (b c : List ℕ) (p q n : ℕ) → ((k : ℕ) → k < n → bit_set b (p + k) ≡ bit_set c (q + k)) → zeros_from b p n ≡ zeros_from c q n
 unfolding zeros_from

@@ -57,7 +57,7 @@ fn zeros_by_bit(body: &[u8], at: u128, n: u64) -> u64
     ensures counted { result ≡ zeros_from body.now at n }
     ensures few { result ≤ n }
 {
-    (at..at + n as u128).filter(|k| !bit_in(body, *k)).count() as u64
+    (0..n).filter(|i| !bit_in(body, at + *i as u128)).count() as u64
 }
 
 // Of the whole words of 64 bits among the bytes.

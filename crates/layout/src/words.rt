@@ -1,4 +1,4 @@
-ghost use Rattle.std.specs.Prelude.{◌≡◌, ◌+◌, ◌*◌, ◌≤◌, cond, length, drop, take, Some, None, if◌then◌else◌, nat_le};
+ghost use Rattle.std.specs.Prelude.{◌≡◌, ◌+◌, ◌*◌, ◌^◌, ◌≤◌, MatchOption, cond, length, drop, take, Some, None, if◌then◌else◌, nat_le};
 ghost use Rattle.layout.specs.Laws.{WordIsSum, AlikeReadAlike, TwosComplement, SignedIsRead, WrittenIsRead, OthersStay};
 ghost use Rattle.layout.specs.Words.{number_reply, put_bytes, word_fits, written};
 
@@ -18,19 +18,15 @@ pub fn get<T: ArrowNativeType>(body: &[u8], at: u64) -> Option<T>
 pub fn get_nth<T: ArrowNativeType>(body: &[u8], place: u64, k: u64) -> Option<T>
     ensures { result ≡ number_reply T.of_word T.WIDTH body.now (place + T.WIDTH * k) }
 {
-    let at = nth_place::<T>(body, place, k)?;
+    let at = nth_place::<T>(place, k)?;
     get(body, at)
 }
 
-// Where word number k of those that lie one behind the other from a place on begins, or nothing where it does not lie in the body.
-fn nth_place<T: ArrowNativeType>(body: &[u8], place: u64, k: u64) -> Option<u64>
-    ensures { result ≡ cond (word_fits body.now (place + T.WIDTH * k) T.WIDTH) (Some (place + T.WIDTH * k)) None }
+// Where word number k of those that lie one behind the other from a place on begins, or nothing where that passes 64 bits.
+fn nth_place<T: ArrowNativeType>(place: u64, k: u64) -> Option<u64>
+    ensures { MatchOption result (2 ^ 64 ≤ place + T.WIDTH * k) (λ at. at ≡ place + T.WIDTH * k) }
 {
-    let room = (body.len() as u64).checked_sub(place)?;
-    if k >= room / T::WIDTH {
-        return None;
-    }
-    Some(place + T::WIDTH * k)
+    T::WIDTH.checked_mul(k)?.checked_add(place)
 }
 
 // Whether the `width` bytes at a place lie in the body.
@@ -64,7 +60,7 @@ pub fn put_nth<T: ArrowNativeType>(body: &mut [u8], place: u64, k: u64, number: 
     ensures fits { result ≡ word_fits body.old (place + T.WIDTH * k) T.WIDTH }
     ensures leaves { body.new ≡ written T.WIDTH body.old (place + T.WIDTH * k) (T.to_word number) }
 {
-    let Some(at) = nth_place::<T>(body, place, k) else {
+    let Some(at) = nth_place::<T>(place, k) else {
         return false;
     };
     put(body, at, number)
@@ -74,7 +70,11 @@ pub fn put_nth<T: ArrowNativeType>(body: &mut [u8], place: u64, k: u64, number: 
 pub(crate) fn bytes_at<const N: usize>(body: &[u8], at: u64) -> Option<[u8; N]>
     ensures { result ≡ cond (word_fits body.now at N) (Some (take N (drop at body.now))) None }
 {
-    body.get(at as usize..)?.first_chunk().copied()
+    if !word_fits(body, at, N as u64) {
+        return None;
+    }
+    let from = at as usize;
+    body[from..from + N].first_chunk().copied()
 }
 
 // Stores the bytes one by one; false, and nothing stored, where they do not lie in the body.

@@ -32,9 +32,12 @@ impl Ledger {
         ensures answers { result ≡ reservation self.old bytes }
         ensures leaves { self.new ≡ reserved self.old bytes }
         ensures leads { ReserveLeads self.old.end self.new.end }
+        ensures kept { Kept self.old }
         ensures keeps { Kept self.new }
     {
-        let (start, end) = self.place_behind(self.end, bytes as u128)?;
+        let Ok((start, end)) = self.place_behind(self.end, bytes as u128) else {
+            return Err(Reason::NoPlaceLeft.into());
+        };
         self.end = end;
         Ok(start)
     }
@@ -44,11 +47,16 @@ impl Ledger {
         ensures answers { result ≡ reservation2 self.old bytes more }
         ensures leaves { self.new ≡ reserved2 self.old bytes more }
         ensures leads { ReserveLeads self.old.end self.new.end }
+        ensures kept { Kept self.old }
         ensures keeps { Kept self.new }
     {
-        let (first, between) = self.place_behind(self.end, bytes)?;
-        let (second, end) = self.place_behind(between, more)?;
-        self.end = end;
+        let Ok((first, between)) = self.place_behind(self.end, bytes) else {
+            return Err(Reason::NoPlaceLeft.into());
+        };
+        let Ok((second, after)) = self.place_behind(between, more) else {
+            return Err(Reason::NoPlaceLeft.into());
+        };
+        self.end = after;
         Ok((first, second))
     }
 

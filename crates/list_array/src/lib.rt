@@ -29,8 +29,12 @@ pub mod list_array;
 pub fn offset_pair<O: OffsetSizeTrait>(body: &[u8], place: u64, k: u64) -> Option<(i64, i64)>
     ensures { result ≡ pair_reply O.WIDTH place body.now k }
 {
-    let lo = O::read_nth(body, place, k)?;
-    let hi = O::read_nth(body, place, k.checked_add(1)?)?;
+    if !words_fit::<O>(body, place, k.checked_add(2)?) {
+        return None;
+    }
+    let at = place + O::WIDTH * k;
+    let lo = O::read(body, at)?;
+    let hi = O::read(body, at + O::WIDTH)?;
     Some((lo, hi))
 }
 

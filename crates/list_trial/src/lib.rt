@@ -58,7 +58,7 @@ fn offset_in<O: OffsetSizeTrait>(body: &[u8], place: u64, k: u64) -> i64
     requires { place + O.WIDTH * (k + 1) ≤ length body.now }
     ensures { result ≡ offset_of O.WIDTH place body.now k }
 {
-    O::read_nth(body, place, k).unwrap_or(0)
+    O::read(body, place + O::WIDTH * k).unwrap_or(0)
 }
 
 // The last of the offsets, where none is below the one before; they lie in the body.

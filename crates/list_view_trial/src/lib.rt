@@ -80,8 +80,8 @@ fn view_end<O: OffsetSizeTrait>(body: &[u8], starts: u64, sizes: u64, k: u64) ->
     requires { (starts + O.WIDTH * k + O.WIDTH ≤ length body.now) × (sizes + O.WIDTH * k + O.WIDTH ≤ length body.now) }
     ensures { result ≡ view_end O.WIDTH starts sizes body.now k }
 {
-    let start = O::read_nth(body, starts, k).unwrap_or(0);
-    let count = O::read_nth(body, sizes, k).unwrap_or(0);
+    let start = O::read(body, starts + O::WIDTH * k).unwrap_or(0);
+    let count = O::read(body, sizes + O::WIDTH * k).unwrap_or(0);
     start.cast_unsigned() as u128 + count.cast_unsigned() as u128
 }
 

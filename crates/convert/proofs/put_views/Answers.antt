@@ -20,10 +20,10 @@ loop-i-preserved g c =
     let pair = c.unwrap_or-from.result in
     let y = c.saturating_sub.result in
     let shown = pair_shows (range b i) pair (rw c.element_range.ensures at c.unwrap_or-from.ensures) in
-    let d = c.write_nth.new.body in
+    let d = c.write.new.body in
     let e : d ≡ offset_put w b p i (start_of (range b i)) =
-    c.write_nth.ensures.leaves ∙ ap (offset_put w b p i) shown.0 in
+    c.write.ensures.leaves ∙ ap (λ (u : ℕ). written w b (p + u * i) (pair.0 % suc (largest_of w))) c.WIDTH.ensures ∙ ap (offset_put w b p i) shown.0 in
     let z : y ≡ size_of (range b i) = c.saturating_sub.ensures ∙ shown.1 in
-    let f : c.write_nth-in-loop-i.new.body ≡ offset_put w d q i (size_of (range b i)) =
-    c.write_nth-in-loop-i.ensures.leaves ∙ ap (offset_put w d q i) z in
+    let f : c.write-in-loop-i.new.body ≡ offset_put w d q i (size_of (range b i)) =
+    c.write-in-loop-i.ensures.leaves ∙ ap (λ (u : ℕ). written w d (q + u * i) (y % suc (largest_of w))) c.WIDTH-in-loop-i.ensures ∙ ap (offset_put w d q i) z in
     f ∙ ap (λ t. offset_put w t q i (size_of (range b i))) e ∙ views_more w range p q c.args.body.now b i c.loop-i.invariant
